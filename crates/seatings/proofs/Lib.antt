@@ -1,0 +1,5 @@
+pub mod Counts
+pub mod Pigeons
+pub mod Fewer
+pub mod Decided
+pub mod Full
