@@ -4,3 +4,4 @@ pub mod place;
 pub mod refusal;
 pub mod seat;
 pub mod shape;
+pub mod write;
