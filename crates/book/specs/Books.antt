@@ -10,7 +10,7 @@ use Rattle.seatings.specs.Counts.{count}
 use Rattle.seatings.specs.Seatings.{seatable, also}
 use Rattle.tallies.specs.Kinds.{Kind}
 use Rattle.rules.specs.Rules.{Meaning}
-use Rattle.seats.specs.Shapes.{Size}
+use Rattle.seats.specs.Shapes.{Size, with-rows}
 use Rattle.seats.specs.Seats.{held, changed}
 use Rattle.seats.specs.declared.refusal.Refusal.{Refusal}
 use Rattle.seats.specs.declared.refusal.Refusal.the-variants.{Words, LongKey, NoAmount, Ceiling, NoSeating, NotHeld, NotTakenBack, RowLimit, NoNarrowSeating}
@@ -47,10 +47,7 @@ fingerprint rule b key = rule key (b .size .range)
 abbrev pub enter : {V : Type 0} → Book V → ℕ → Option V → Book V
 enter b f entry = record { size = b .size; entries = changed (b .entries) f entry }
 
--- the size, and the book, with other rows in use
-abbrev pub with-rows : Size → ℕ → Size
-with-rows z rows = record { buckets = z .buckets; most = z .most; rows = rows; range = z .range }
-
+-- the book with other rows in use
 abbrev pub resize : {V : Type 0} → Book V → ℕ → Book V
 resize b rows = record { size = with-rows (b .size) rows; entries = b .entries }
 

@@ -25,7 +25,7 @@ count-same p q zero each = refl
 count-same p q (suc n) each = omega (arith, ap bit (each n (omega arith)), count-same p q n (λ k h. each k (omega arith)))
 
 -- a test that splits into two
-count-add : (p q r : ℕ → Bool) (n : ℕ) → ((k : ℕ) → bit (p k) ≡ bit (q k) + bit (r k)) → count p n ≡ count q n + count r n
+pub count-add : (p q r : ℕ → Bool) (n : ℕ) → ((k : ℕ) → bit (p k) ≡ bit (q k) + bit (r k)) → count p n ≡ count q n + count r n
 count-add p q r zero each = refl
 count-add p q r (suc n) each = omega (arith, each n, count-add p q r n each)
 

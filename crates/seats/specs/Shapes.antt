@@ -21,6 +21,10 @@ pub record Size : Type 0 where
 abbrev pub size : Shape → Size
 size s = record { buckets = s .buckets; most = s .most; rows = s .rows; range = s .buckets * (s .buckets - 1) }
 
+-- the size with other rows in use
+abbrev pub with-rows : Size → ℕ → Size
+with-rows z rows = record { buckets = z .buckets; most = z .most; rows = rows; range = z .range }
+
 -- the limits of these numbers
 pub record Sound (z : Size) : Type 0 where
   pub some : 2 ≤ z .buckets

@@ -1,0 +1,5 @@
+pub mod Counted
+pub mod Reading
+pub mod Changing
+pub mod Reversing
+pub mod Resizing

@@ -1,0 +1,132 @@
+-- The same seats with more rows in use, or fewer. Assumes nothing.
+use mathlib.Core.Path.{_≡_, refl, sym, ap, subst, _∙_}
+use mathlib.Core.Bool.{Bool, true, false, cond, not}
+use mathlib.Core.List.{List}
+use mathlib.Core.Logic.{⊎-elim}
+use Prim.Native.Nat.{ℕ, _+_, _-_, _*_, _<_, _≤_}
+use native.Mathlib.Omega.{arith}
+use lib.Dec.{ltb}
+use lib.ListN.{length}
+use denote.Ref.{now, name}
+use Rattle.std.proofs.shelf.Tests.{cases-lt, lt-ltb, le-ltb}
+use Rattle.std.specs.declared.option.Option.{Option}
+use Rattle.tallies.specs.Kinds.{Kind}
+use Rattle.rules.specs.Rules.{Meaning}
+use Rattle.seats.specs.declared.refusal.Refusal.{Refusal}
+use Rattle.seats.specs.declared.refusal.Refusal.the-variants.{RowLimit}
+use Rattle.seats.specs.declared.seat.Seat.{Seat}
+use Rattle.seats.specs.declared.shape.Shape.{Shape}
+use Rattle.seats.specs.Shapes.{Size, size, with-rows}
+use Rattle.seats.specs.Seats.{Shows, Sits, Filled, at, vacant}
+use Rattle.book.specs.declared.answer.Answer.{Answer}
+use Rattle.book.specs.declared.answer.Answer.the-variants.{Sized, Refused}
+use Rattle.book.specs.Books.{Book, Call, Turn, widen, check, turn, turned-away, resize, resized, holding}
+use Rattle.table.specs.declared.table.Table.{Table}
+use Rattle.table.specs.Tables.{Keeps, Did}
+use Rattle.table.proofs.Reading.{unmoved}
+
+-- what the rows in use show, other rows show too, if all filled seats lie in both and what is new is empty
+module _ {X : Type 0} (e : X) (xs : List (Seat X)) (z : Size) (rows : ℕ)
+    (both : (bucket row : ℕ) → bucket < z .buckets → row < z .rows → Filled e xs (bucket * z .most + row) → row < rows)
+    (new : (bucket row : ℕ) → bucket < z .buckets → row < rows → z .rows ≤ row → at e xs (bucket * z .most + row) ≡ vacant e) where
+  onward : (f i : ℕ) → Sits e xs z f i → Sits e xs (with-rows z rows) f i
+  onward f i s = record {
+    bucket = s .bucket;
+    row = s .row;
+    in-table = s .in-table;
+    in-rows = both (s .bucket) (s .row) (s .in-table) (s .in-rows) (subst (Filled e xs) (s .lies) (s .filled));
+    lies = s .lies;
+    filled = s .filled;
+    home = s .home;
+    carried = s .carried;
+    below = s .below;
+  }
+
+  old : (bucket row : ℕ) → bucket < z .buckets → row < rows → Filled e xs (bucket * z .most + row) → row < z .rows
+  old bucket row b r filled =
+      ⊎-elim (λ lt. lt) (λ past. absurd (filled (ap (λ (s : Seat X). s .tally) (new bucket row b r past)))) (cases-lt row (z .rows))
+
+  back : (f i : ℕ) → Sits e xs (with-rows z rows) f i → Sits e xs z f i
+  back f i s = record {
+    bucket = s .bucket;
+    row = s .row;
+    in-table = s .in-table;
+    in-rows = old (s .bucket) (s .row) (s .in-table) (s .in-rows) (subst (Filled e xs) (s .lies) (s .filled));
+    lies = s .lies;
+    filled = s .filled;
+    home = s .home;
+    carried = s .carried;
+    below = s .below;
+  }
+
+  pub shows-resized : (entries : ℕ → Option X) → Shows e xs z entries → Shows e xs (with-rows z rows) entries
+  shows-resized entries shows = record {
+    gives-back = λ bucket row b r filled. let (f, s) = shows .gives-back bucket row b (old bucket row b r filled) filled in (f, onward f _ s);
+    told = λ f i s. shows .told f i (back f i s);
+    seated = λ f t is. let (i, s) = shows .seated f t is in (i, onward f i s);
+    alone = λ f i j s t. shows .alone f i j (back f i s) (back f j t);
+    alike = λ bucket row b r empty. ⊎-elim (λ lt. shows .alike bucket row b lt empty) (λ past. new bucket row b r past) (cases-lt row (z .rows));
+    upright = λ f i s even. shows .upright f i (back f i s) even;
+  }
+
+-- a table whose rows in use alone are other than before
+module _ {V : Type 0} (k : Kind V) (t u : Table V) (buckets : u .shape .buckets ≡ t .shape .buckets) (most : u .shape .most ≡ t .shape .most) (count : u .held ≡ t .held) where
+  same-size : size (u .shape) ≡ with-rows (size (t .shape)) (u .shape .rows)
+  same-size = λ i. record { buckets = buckets i; most = most i; rows = u .shape .rows; range = buckets i * (buckets i - 1) }
+
+  -- all seats past the rows in use of u are empty
+  abbrev pub Rest : Type 0
+  Rest = (bucket row : ℕ) → bucket < t .shape .buckets → u .shape .rows ≤ row → row < t .shape .most → at (k .empty) (now (u .seats)) (bucket * t .shape .most + row) ≡ vacant (k .empty)
+
+  pub keeps-resized : (b : Book V) → Keeps k t b → length (now (u .seats)) ≡ length (now (t .seats)) →
+      Shows (k .empty) (now (u .seats)) (with-rows (size (t .shape)) (u .shape .rows)) (b .entries) → Rest → Keeps k u (resize b (u .shape .rows))
+  keeps-resized b keeps long shows rest = record {
+    sized = ap (λ (z : Size). with-rows z (u .shape .rows)) (keeps .sized) ∙ sym same-size;
+    room = (λ i. buckets i * most i) ∙ keeps .room ∙ sym long;
+    shows = subst (λ (z : Size). Shows (k .empty) (now (u .seats)) z (b .entries)) (sym same-size) shows;
+    rest = λ bucket row low past high.
+        ap (λ n. at (k .empty) (now (u .seats)) (bucket * n + row)) most ∙ rest bucket row (subst (λ n. bucket < n) buckets low) past (subst (λ n. row < n) most high);
+    values = keeps .values;
+    counted = count ∙ keeps .counted;
+  }
+
+  -- the answer is the book's, where its rows are
+  pub same-answer : (b : Book V) (rows : ℕ) → Keeps k t b → u .shape .rows ≡ rows → Sized (record { rows = u .shape .rows; held = u .held }) ≡ resized (resize b rows) .answer
+  same-answer b rows keeps is = λ i. Sized (record { rows = is i; held = (count ∙ keeps .counted) i })
+
+module _ {V : Type 0} (k : Kind V) (rule : Meaning) (t : Table V) where
+  limited : (b : Book V) (room : Bool) → room ≡ false → check b (not room) RowLimit (resized (resize b (b .size .rows + 1))) ≡ turned-away b RowLimit
+  limited b room is = ap (λ x. check b (not x) RowLimit (resized (resize b (b .size .rows + 1)))) is
+
+  widens : (b : Book V) (room : Bool) → room ≡ true → check b (not room) RowLimit (resized (resize b (b .size .rows + 1))) ≡ resized (resize b (b .size .rows + 1))
+  widens b room is = ap (λ x. check b (not x) RowLimit (resized (resize b (b .size .rows + 1)))) is
+
+  rows-are : (b : Book V) → Keeps k t b → b .size .rows ≡ t .shape .rows
+  rows-are b keeps = ap (λ (z : Size). z .rows) (keeps .sized)
+
+  most-are : (b : Book V) → Keeps k t b → b .size .most ≡ t .shape .most
+  most-are b keeps = ap (λ (z : Size). z .most) (keeps .sized)
+
+  pub not-widened : t .shape .most ≤ t .shape .rows → Did k rule t widen (Refused RowLimit) t
+  not-widened full =
+      unmoved k rule t widen (Refused RowLimit)
+      (λ b keeps. limited b (ltb (b .size .rows) (b .size .most)) (le-ltb (b .size .rows) (b .size .most) (omega (arith, rows-are b keeps, most-are b keeps))))
+
+  pub widened : (u : Table V) → t .shape .rows < t .shape .most → now (u .seats) ≡ now (t .seats) → u .shape .buckets ≡ t .shape .buckets → u .shape .most ≡ t .shape .most →
+      u .shape .rows ≡ t .shape .rows + 1 → u .held ≡ t .held → name (u .seats) ≡ name (t .seats) → Did k rule t widen (Sized (record { rows = u .shape .rows; held = u .held })) u
+  widened u room seats buckets most more count lent =
+      let rows : (b : Book V) → Keeps k t b → u .shape .rows ≡ b .size .rows + 1 = λ b keeps. more ∙ ap (λ n. n + 1) (sym (rows-are b keeps)) in
+      let turns : (b : Book V) → Keeps k t b → turn k rule b widen ≡ resized (resize b (b .size .rows + 1)) = λ b keeps.
+      widens b (ltb (b .size .rows) (b .size .most)) (lt-ltb (b .size .rows) (b .size .most) (omega (arith, rows-are b keeps, most-are b keeps))) in
+      record {
+        answers = λ b keeps. same-answer k t u buckets most count b (b .size .rows + 1) keeps (rows b keeps) ∙ sym (ap (λ (x : Turn V). x .answer) (turns b keeps));
+        keeps = λ b keeps.
+            subst (λ (x : Turn V). Keeps k u (x .book)) (sym (turns b keeps))
+            (subst (λ n. Keeps k u (resize b n)) (rows b keeps)
+            (keeps-resized k t u buckets most count b keeps (ap length seats)
+            (subst (λ xs. Shows (k .empty) xs (with-rows (size (t .shape)) (u .shape .rows)) (b .entries)) (sym seats)
+            (shows-resized (k .empty) (now (t .seats)) (size (t .shape)) (u .shape .rows) (λ bucket row _ low _. omega arith) (λ bucket row low lt past. keeps .rest bucket row low past (omega arith)) (b .entries) (keeps .shows)))
+            (λ bucket row low past high. ap (λ xs. at (k .empty) xs (bucket * t .shape .most + row)) seats ∙ keeps .rest bucket row low (omega arith) high)));
+        still = λ _ _ _. seats;
+        lent = lent;
+      }

@@ -1,0 +1,2 @@
+// The table of flows: opening, its calls, and requests for them.
+pub mod table;

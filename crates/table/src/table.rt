@@ -1,0 +1,14 @@
+use seats::seat::Seat;
+use seats::shape::Shape;
+
+mod changes;
+mod reads;
+mod rows;
+
+// A table over lent seats, with its numbers and how many fingerprints it holds.
+#[derive(Drop)]
+pub struct Table<'a, T> {
+    seats: &'a mut [Seat<T>],
+    shape: Shape,
+    held: u32,
+}
