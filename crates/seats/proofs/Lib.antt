@@ -1,2 +1,4 @@
 pub mod Placing
 pub mod Sitting
+pub mod Shown
+pub mod Seated

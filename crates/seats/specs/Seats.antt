@@ -8,6 +8,7 @@ use lib.Dec.{eqb}
 use lib.ListN.{length, getD}
 use Rattle.std.specs.declared.option.Option.{Option}
 use Rattle.std.specs.declared.option.Option.the-variants.{Some, None}
+use Rattle.std.specs.Options.{isSome}
 use Rattle.seats.specs.declared.place.Place.{Place}
 use Rattle.seats.specs.declared.seat.Seat.{Seat}
 use Rattle.seats.specs.Shapes.{Size}
@@ -61,6 +62,10 @@ pub record Shows {X : Type 0} (e : X) (seats : List (Seat X)) (z : Size) (entrie
   pub alone : (f i j : ℕ) → Sits e seats z f i → Sits e seats z f j → i ≡ j
   pub alike : (bucket row : ℕ) → bucket < z .buckets → row < z .rows → at e seats (bucket * z .most + row) .tally ≡ e → at e seats (bucket * z .most + row) ≡ vacant e
   pub upright : (f i : ℕ) → Sits e seats z f i → f / z .buckets ≡ f % z .buckets → at e seats i .flag ≡ true
+
+-- the fingerprints that have an entry
+abbrev pub held : {X : Type 0} → (ℕ → Option X) → ℕ → Bool
+held entries f = isSome (entries f)
 
 -- the entries with this at f
 abbrev pub changed : {X : Type 0} → (ℕ → Option X) → ℕ → Option X → ℕ → Option X
