@@ -1,2 +1,3 @@
 pub mod Visits
 pub mod Trees
+pub mod Searches

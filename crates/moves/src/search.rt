@@ -1,7 +1,7 @@
 // The breadth-first search for a free seat. It begins with the two buckets of a fingerprint, and goes on from each full
 // bucket to the other buckets of the entries there.
 ghost use mathlib.Core.Path.{_≡_};
-ghost use Prim.Native.Nat.{ℕ, _<_, _≤_};
+ghost use Prim.Native.Nat.{ℕ, _*_, _<_, _≤_};
 ghost use lib.ListN.{length, getD};
 ghost use Rattle.std.specs.Options.{Cases};
 ghost use Rattle.seats.specs.Shapes.{size};
@@ -57,4 +57,60 @@ fn begin(shape: Shape, fingerprint: u32, links: &mut [u32], queue: &mut [u32]) -
     forget(links);
     let first = visit(links, queue, 0, shape.place(fingerprint, true).bucket, ROOT);
     visit(links, queue, first, shape.place(fingerprint, false).bucket, ROOT)
+}
+
+// Goes through the rows in use of the bucket at the queue's head, once: the first empty seat ends the search, and the other
+// bucket of each entry is visited.
+fn expand<T: Tally + Copy>(
+    seats: &[Seat<T>],
+    shape: Shape,
+    links: &mut [u32],
+    queue: &mut [u32],
+    head: usize,
+    tail: usize,
+) -> Expansion
+    requires sizes { ⌜ (length (now seats) ≡ shape .buckets * shape .most) × (length (now links) ≡ shape .buckets) × (shape .buckets ≤ length (now queue)) ⌝ }
+    requires on { ⌜ head < tail ⌝ }
+    requires reached { ⌜ Reached (T·Tally .kind .empty) (now seats) (size shape) (now links) (now queue) head tail ⌝ }
+    ensures { λ r. ⌜ Expanded (T·Tally .kind .empty) (now (seats .entry)) (size shape) (now (links .entry)) (now (queue .entry)) head tail (now (links .exit)) (now (queue .exit)) r ⌝ }
+{
+    let first = queue[head] * shape.most;
+    let mut end = tail;
+    for row in 0..shape.rows {
+        let i = first + row;
+        let seat = seats[i as usize];
+        if seat.tally.is_empty() {
+            return Expansion::Free(i as usize);
+        }
+        if seat.carry < shape.buckets {
+            end = visit(links, queue, end, seat.carry, i);
+        }
+    }
+    Expansion::Full(end)
+}
+
+// The nearest free seat to which a chain of moves leads from the buckets of the fingerprint, with the chain in the links.
+pub fn search<T: Tally + Copy>(
+    seats: &[Seat<T>],
+    shape: Shape,
+    fingerprint: u32,
+    links: &mut [u32],
+    queue: &mut [u32],
+) -> Option<usize>
+    requires sizes { ⌜ (length (now seats) ≡ shape .buckets * shape .most) × (length (now links) ≡ shape .buckets) × (shape .buckets ≤ length (now queue)) ⌝ }
+    requires below { ⌜ fingerprint < size shape .range ⌝ }
+    ensures { λ r. ⌜ Cases r
+        (Stuck (T·Tally .kind .empty) (now (seats .entry)) (size shape) fingerprint (now (links .exit)))
+        (λ i. Found (T·Tally .kind .empty) (now (seats .entry)) (size shape) fingerprint (now (links .exit)) i) ⌝ }
+{
+    let mut tail = begin(shape, fingerprint, links, queue);
+    let mut head = 0;
+    while head < tail {
+        match expand(seats, shape, links, queue, head, tail) {
+            Expansion::Free(i) => return Some(i),
+            Expansion::Full(end) => tail = end,
+        }
+        head += 1;
+    }
+    None
 }
