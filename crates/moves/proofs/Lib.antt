@@ -1,3 +1,5 @@
 pub mod Visits
 pub mod Trees
 pub mod Searches
+pub mod Moved
+pub mod Walks

@@ -149,13 +149,15 @@ module _ {X : Type 0} {e : X} {seats : List (Seat X)} {z : Size} (sound : Sound 
         (k .0, ⊎-elim (λ h. h) (λ le. absurd (omega (arith, r .layers .sorted head (k .0) le (k .1), ap rank (k .2)))) (cases-lt (k .0) head), k .2)
         in
         record {
-          tree = record { rank = rank; below = λ j h seen. omega (arith, r .tree .below j h seen, r .order .few); step = r .tree .step };
+          chain = record {
+            tree = record { rank = rank; below = λ j h seen. omega (arith, r .tree .below j h seen, r .order .few); step = r .tree .step };
+            bucket = getD queue′ head 0;
+            in-table = r .order .low head still-on;
+            seen = r .order .listed head still-on;
+            lies = subst (λ b. Lies z b i) (sym same) (x .lies);
+            empty = x .empty;
+          };
           roots = roots-grown (x .grown) (s .roots);
-          bucket = getD queue′ head 0;
-          in-table = r .order .low head still-on;
-          seen = r .order .listed head still-on;
-          lies = subst (λ b. Lies z b i) (sym same) (x .lies);
-          empty = x .empty;
           full = λ j h seen lower.
               let k = nearer j h seen lower in
               subst (λ b. Full e seats z b (z .rows)) (sym (x .grown .same (k .0) (omega (arith, k .1))) ∙ k .2) (s .full (k .0) (k .1));

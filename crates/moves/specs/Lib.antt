@@ -1,3 +1,4 @@
 pub mod Queue
 pub mod Tree
 pub mod Search
+pub mod Walk

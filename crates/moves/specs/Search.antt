@@ -49,15 +49,20 @@ pub record Stuck {X : Type 0} (e : X) (seats : List (Seat X)) (z : Size) (f : �
   pub full : (j : ℕ) → j < z .buckets → Seen links j → Full e seats z j (z .rows)
   pub closed : (j row : ℕ) → j < z .buckets → Seen links j → row < z .rows → other e seats z j row < z .buckets → Seen links (other e seats z j row)
 
--- the nearest free seat, i: its bucket was reached from those of f; the buckets of a lower rank are full, and what they hold
--- may move one rank further at most
-pub record Found {X : Type 0} (e : X) (seats : List (Seat X)) (z : Size) (f : ℕ) (links : List ℕ) (i : ℕ) : Type 0 where
+-- the links lead by a chain of moves to the free seat i
+pub record Chain {X : Type 0} (e : X) (seats : List (Seat X)) (z : Size) (links : List ℕ) (i : ℕ) : Type 0 where
   pub tree : Tree e seats z links (z .buckets)
-  pub roots : Roots z f links
   pub bucket : ℕ
   pub in-table : bucket < z .buckets
   pub seen : Seen links bucket
   pub lies : Lies z bucket i
   pub empty : at e seats i .tally ≡ e
-  pub full : (j : ℕ) → j < z .buckets → Seen links j → tree .rank j < tree .rank bucket → Full e seats z j (z .rows)
-  pub near : (j row : ℕ) → j < z .buckets → Seen links j → tree .rank j < tree .rank bucket → row < z .rows → Near e seats z links (tree .rank) j row
+
+-- a chain leads from a bucket of f to the free seat i, the nearest: the buckets of a lower rank are full, and what they hold
+-- may move one rank further at most
+pub record Found {X : Type 0} (e : X) (seats : List (Seat X)) (z : Size) (f : ℕ) (links : List ℕ) (i : ℕ) : Type 0 where
+  pub chain : Chain e seats z links i
+  pub roots : Roots z f links
+  pub full : (j : ℕ) → j < z .buckets → Seen links j → chain .tree .rank j < chain .tree .rank (chain .bucket) → Full e seats z j (z .rows)
+  pub near : (j row : ℕ) → j < z .buckets → Seen links j → chain .tree .rank j < chain .tree .rank (chain .bucket) → row < z .rows →
+      Near e seats z links (chain .tree .rank) j row
