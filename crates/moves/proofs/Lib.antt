@@ -3,3 +3,4 @@ pub mod Trees
 pub mod Searches
 pub mod Moved
 pub mod Walks
+pub mod Refuting

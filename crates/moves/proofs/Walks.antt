@@ -34,6 +34,15 @@ beyond-set e before after {z} sound b i (row, in-rows, lies) x beyond c r low pa
     in
     getD-set-other after i (c * z .most + r) x (vacant e) apart ∙ beyond c r low past short
 
+-- a free seat is open
+pub opened-free : {X : Type 0} (e : X) (seats : List (Seat X)) {z : Size} → Sound z → (bucket i : ℕ) → bucket < z .buckets → Lies z bucket i → at e seats i .tally ≡ e → Opened e seats seats z bucket i
+opened-free e seats sound bucket i low lies empty = record {
+  in-table = low;
+  lies = lies;
+  opens = λ entries shows. shows-vacant e sound seats entries shows bucket i low lies empty;
+  beyond = λ b row low past short. refl;
+}
+
 module _ {X : Type 0} {e : X} {before : List (Seat X)} {z : Size} (sound : Sound z) {links : List ℕ} where
   module _ (t : Tree e before z links (z .buckets)) where
     -- a link that is no root is a seat
@@ -71,36 +80,28 @@ module _ {X : Type 0} {e : X} {before : List (Seat X)} {z : Size} (sound : Sound
       subst (λ b. Walking e before before z links i b) (sym (bucket-of sound (c .bucket) i (c .lies)))
       (record {
         tree = c .tree;
-        in-table = c .in-table;
         seen = c .seen;
-        lies = c .lies;
+        opened = opened-free e before sound (c .bucket) i (c .in-table) (c .lies) (c .empty);
         same = λ b row h lower. refl;
-        opens = λ entries shows. shows-vacant e sound before entries shows (c .bucket) i (c .in-table) (c .lies) (c .empty);
-        beyond = λ b row low past short. refl;
       })
 
   module _ {after : List (Seat X)} {hole j : ℕ} (long : length after ≡ z .buckets * z .most) (w : Walking e before after z links hole j) where
-    pub walking-all : getD links j 0 ≡ root → Opened e before after z links hole
-    walking-all is = record { bucket = j; in-table = w .in-table; at-root = is; lies = w .lies; opens = w .opens; beyond = w .beyond }
-
     pub hole-inside : hole < length after
-    hole-inside = omega (arith, lies-inside sound j hole (w .in-table) (w .lies))
+    hole-inside = omega (arith, lies-inside sound j hole (w .opened .in-table) (w .opened .lies))
 
     module _ (inner : getD links j 0 ≡ root → ⊥) where
       up : Parent e before z links (w .tree .rank) (w .tree .rank j) j (getD links j 0)
-      up = parent (w .tree) j (w .in-table) (w .seen) inner
+      up = parent (w .tree) j (w .opened .in-table) (w .seen) inner
 
       pub parent-inside : getD links j 0 < length after
       parent-inside = let p = up in omega (arith, lies-inside sound (p .bucket) (getD links j 0) (p .in-table) (p .row, p .in-rows, p .lies))
-
-      pub parent-bucket : getD links j 0 / z .most < z .buckets
-      parent-bucket = let p = up in omega (arith, at-parent (w .tree) p, p .in-table)
 
       -- the entry of the link's seat moved into the hole, and that seat is open
       pub walking-more : {next : List (Seat X)} → next ≡ set after hole (moved e after (getD links j 0) (getD links j 0 / z .most)) →
           Walking e before next z links (getD links j 0) (getD links j 0 / z .most)
       walking-more {next} is =
           let p = up in
+          let o = w .opened in
           let rank = w .tree .rank in
           let i = p .bucket in
           let s = i * z .most + p .row in
@@ -109,13 +110,13 @@ module _ {X : Type 0} {e : X} {before : List (Seat X)} {z : Size} (sound : Sound
           let old : at e after s ≡ at e before s = w .same i (p .row) (p .in-rows) nearer in
           let x : Seat X = moved e after s i in
           let blank : List (Seat X) = set after hole (vacant e) in
-          let at-s : (b row : ℕ) → row < z .rows → rank b < rank j → b * z .most + row ≡ hole → ⊥ =
-          λ b row h lower is. apart b lower (same-bucket e sound b row j (w .lies .0) h (w .lies .1) (is ∙ w .lies .2))
+          let not-hole : (b row : ℕ) → row < z .rows → rank b < rank j → b * z .most + row ≡ hole → ⊥ =
+          λ b row h lower is. apart b lower (same-bucket e sound b row j (o .lies .0) h (o .lies .1) (is ∙ o .lies .2))
           in
-          let clear : at e blank s ≡ at e after s = getD-set-other after hole s (vacant e) (vacant e) (at-s i (p .row) (p .in-rows) nearer) in
+          let clear : at e blank s ≡ at e after s = getD-set-other after hole s (vacant e) (vacant e) (not-hole i (p .row) (p .in-rows) nearer) in
           let was : at e blank s ≡ at e before (getD links j 0) = clear ∙ old ∙ ap (at e before) (sym (p .lies)) in
           let lists : set (set blank s (vacant e)) hole (moved e blank s i) ≡ set (set after hole x) s (vacant e) =
-          set-comm blank s hole (vacant e) (moved e blank s i) (at-s i (p .row) (p .in-rows) nearer)
+          set-comm blank s hole (vacant e) (moved e blank s i) (not-hole i (p .row) (p .in-rows) nearer)
           ∙ ap (λ l. set l s (vacant e)) (set-set after hole (vacant e) (moved e blank s i) ∙ ap (λ (y : Seat X). set after hole (seat i (not (y .flag)) (y .tally))) clear)
           in
           subst (λ (l : List (Seat X)). Walking e before l z links (getD links j 0) (getD links j 0 / z .most)) (sym is)
@@ -123,16 +124,18 @@ module _ {X : Type 0} {e : X} {before : List (Seat X)} {z : Size} (sound : Sound
           (subst (λ n. Walking e before (set after hole (moved e after n i)) z links n i) (sym (p .lies))
           (record {
             tree = w .tree;
-            in-table = p .in-table;
             seen = p .seen;
-            lies = (p .row, p .in-rows, refl);
+            opened = record {
+              in-table = p .in-table;
+              lies = (p .row, p .in-rows, refl);
+              opens = λ entries shows.
+                  subst (λ l. Shows e l z entries) lists
+                  (shows-moved e sound blank entries (o .opens entries shows) i (p .row) j hole (apart i nearer) (p .in-table) (p .in-rows)
+                  (subst (λ (y : Seat X). y .tally ≡ e → ⊥) (sym was) (p .filled)) (ap (λ (y : Seat X). y .carry) was ∙ p .leads)
+                  (o .in-table) (o .lies) (omega (arith, hole-inside, length-set after hole (vacant e))) (getD-set-same after hole (vacant e) (vacant e) hole-inside));
+              beyond = beyond-set e before after sound j hole (o .lies) x (o .beyond);
+            };
             same = λ b row h lower.
                 let below : rank b < rank j = omega (arith, lower, nearer) in
-                getD-set-other after hole (b * z .most + row) x (vacant e) (at-s b row h below) ∙ w .same b row h below;
-            opens = λ entries shows.
-                subst (λ l. Shows e l z entries) lists
-                (shows-moved e sound blank entries (w .opens entries shows) i (p .row) j hole (apart i nearer) (p .in-table) (p .in-rows)
-                (subst (λ (y : Seat X). y .tally ≡ e → ⊥) (sym was) (p .filled)) (ap (λ (y : Seat X). y .carry) was ∙ p .leads)
-                (w .in-table) (w .lies) (omega (arith, hole-inside, length-set after hole (vacant e))) (getD-set-same after hole (vacant e) (vacant e) hole-inside));
-            beyond = beyond-set e before after sound j hole (w .lies) x (w .beyond);
+                getD-set-other after hole (b * z .most + row) x (vacant e) (not-hole b row h below) ∙ w .same b row h below;
           })))

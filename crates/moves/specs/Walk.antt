@@ -36,21 +36,16 @@ abbrev pub Beyond : {X : Type 0} → X → List (Seat X) → List (Seat X) → S
 Beyond e before after z = (bucket row : ℕ) → bucket < z .buckets → z .rows ≤ row → row < z .most →
     at e after (bucket * z .most + row) ≡ at e before (bucket * z .most + row)
 
--- on the way back, with the seat `hole` of the bucket open: the buckets of a lower rank are as they were
-pub record Walking {X : Type 0} (e : X) (before after : List (Seat X)) (z : Size) (links : List ℕ) (hole bucket : ℕ) : Type 0 where
-  pub tree : Tree e before z links (z .buckets)
+-- the seat `hole`, in the rows in use of the bucket, is open for an entry
+pub record Opened {X : Type 0} (e : X) (before after : List (Seat X)) (z : Size) (bucket hole : ℕ) : Type 0 where
   pub in-table : bucket < z .buckets
-  pub seen : Seen links bucket
   pub lies : Lies z bucket hole
-  pub same : (b row : ℕ) → row < z .rows → tree .rank b < tree .rank bucket → at e after (b * z .most + row) ≡ at e before (b * z .most + row)
   pub opens : Open e before after z hole
   pub beyond : Beyond e before after z
 
--- the seat `hole`, in a root's bucket, is open for a new entry
-pub record Opened {X : Type 0} (e : X) (before after : List (Seat X)) (z : Size) (links : List ℕ) (hole : ℕ) : Type 0 where
-  pub bucket : ℕ
-  pub in-table : bucket < z .buckets
-  pub at-root : getD links bucket 0 ≡ root
-  pub lies : Lies z bucket hole
-  pub opens : Open e before after z hole
-  pub beyond : Beyond e before after z
+-- on the way back: the seat `hole` of the bucket is open, and the buckets of a lower rank are as they were
+pub record Walking {X : Type 0} (e : X) (before after : List (Seat X)) (z : Size) (links : List ℕ) (hole bucket : ℕ) : Type 0 where
+  pub tree : Tree e before z links (z .buckets)
+  pub seen : Seen links bucket
+  pub opened : Opened e before after z bucket hole
+  pub same : (b row : ℕ) → row < z .rows → tree .rank b < tree .rank bucket → at e after (b * z .most + row) ≡ at e before (b * z .most + row)

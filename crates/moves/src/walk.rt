@@ -1,8 +1,9 @@
 // The moves along a chain that the search found, and the entry of a new fingerprint.
 ghost use mathlib.Core.Path.{_≡_};
-ghost use Prim.Native.Nat.{_*_, _<_};
-ghost use lib.ListN.{length, set};
+ghost use Prim.Native.Nat.{ℕ, _*_, _<_};
+ghost use lib.ListN.{length, getD, set};
 ghost use Rattle.seats.specs.Shapes.{size};
+ghost use Rattle.moves.specs.Queue.{root};
 ghost use Rattle.moves.specs.Search.{Chain};
 ghost use Rattle.moves.specs.Walk.{moved, entered, Opened};
 use crate::search::ROOT;
@@ -28,7 +29,8 @@ fn move_entry<T: Tally + Copy>(seats: &mut [Seat<T>], from: usize, bucket: u32, 
 pub fn walk_back<T: Tally + Copy>(seats: &mut [Seat<T>], shape: Shape, links: &[u32], free: usize) -> usize
     requires sizes { ⌜ (length (now seats) ≡ shape .buckets * shape .most) × (length (now links) ≡ shape .buckets) ⌝ }
     requires chain { ⌜ Chain (T·Tally .kind .empty) (now seats) (size shape) (now links) free ⌝ }
-    ensures { λ r. ⌜ Opened (T·Tally .kind .empty) (now (seats .entry)) (now (seats .exit)) (size shape) (now (links .entry)) r ⌝ }
+    ensures { λ r. ⌜ ((bucket : ℕ) × (getD (now (links .entry)) bucket 0 ≡ root) ×
+        Opened (T·Tally .kind .empty) (now (seats .entry)) (now (seats .exit)) (size shape) bucket r) ⌝ }
 {
     let mut hole = free;
     let mut bucket = free / shape.most as usize;

@@ -1,6 +1,6 @@
 use native.Mathlib.Omega.{arith}
 use Rattle.seats.proofs.Sitting.{shape-sound}
-use Rattle.moves.proofs.Walks.{walking-none, walking-more, walking-all, depth-falls, hole-inside, parent-inside, parent-bucket}
+use Rattle.moves.proofs.Walks.{walking-none, walking-more, depth-falls, hole-inside, parent-inside}
 use Rattle.moves.proofs.walk.walk_back.Needs as need
 
 pub loop-bucket-holds : need.loop-bucket-holds
@@ -17,7 +17,7 @@ loop-bucket-again g c = walking-more (shape-sound (c .args .shape)) (omega arith
 pub loop-bucket-less : need.loop-bucket-less
 loop-bucket-less g c =
     let w = c .loop-bucket .inv in
-    depth-falls (shape-sound (c .args .shape)) (w .tree) (c .loop-bucket .bucket) (w .in-table) (w .seen) (c .loop-bucket-test .taken)
+    depth-falls (shape-sound (c .args .shape)) (w .tree) (c .loop-bucket .bucket) (w .opened .in-table) (w .seen) (c .loop-bucket-test .taken)
 
 pub returns : need.returns
-returns g c = walking-all (shape-sound (c .args .shape)) (omega arith) (c .loop-bucket .inv) (c .loop-bucket-test .left)
+returns g c = (c .loop-bucket .bucket, c .loop-bucket-test .left, c .loop-bucket .inv .opened)
