@@ -4,3 +4,4 @@ pub mod Searches
 pub mod Moved
 pub mod Walks
 pub mod Refuting
+pub mod Placing

@@ -2,3 +2,4 @@ pub mod Queue
 pub mod Tree
 pub mod Search
 pub mod Walk
+pub mod Placed
