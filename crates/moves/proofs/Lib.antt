@@ -1,0 +1,7 @@
+pub mod Visits
+pub mod Trees
+pub mod Searches
+pub mod Moved
+pub mod Walks
+pub mod Refuting
+pub mod Placing

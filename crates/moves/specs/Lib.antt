@@ -1,0 +1,5 @@
+pub mod Queue
+pub mod Tree
+pub mod Search
+pub mod Walk
+pub mod Placed
