@@ -47,9 +47,9 @@ module _ {X : Type 0} {e : X} {before after : List (Seat X)} {z : Size} {hole : 
   by-flag true is = let yes = eq-eqb (hole / z .most) (f / z .buckets) is in (is ∙ sym (cond-true flag (f / z .buckets) (f % z .buckets) yes), λ _. yes)
   by-flag false is = (
     ⊎-elim
-    (λ yes. eqb-true (hole / z .most) (f / z .buckets) yes ∙ sym (cond-true flag (f / z .buckets) (f % z .buckets) yes))
-    (λ no-flag. is ∙ sym (cond-false flag (f / z .buckets) (f % z .buckets) no-flag))
-    (cases-bool flag),
+        (λ yes. eqb-true (hole / z .most) (f / z .buckets) yes ∙ sym (cond-true flag (f / z .buckets) (f % z .buckets) yes))
+        (λ no-flag. is ∙ sym (cond-false flag (f / z .buckets) (f % z .buckets) no-flag))
+        (cases-bool flag),
     λ even. eq-eqb (hole / z .most) (f / z .buckets) (is ∙ sym even),
   )
 

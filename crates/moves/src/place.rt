@@ -29,7 +29,12 @@ fn own_seat<T: Tally + Copy>(seats: &[Seat<T>], shape: Shape, fingerprint: u32) 
 }
 
 // Opens a seat for the fingerprint in one of its buckets, by moves if they are full.
-fn open_seat<T: Tally + Copy>(seats: &mut [Seat<T>], shape: Shape, fingerprint: u32, words: &mut [u32]) -> Option<usize>
+fn open_seat<T: Tally + Copy>(
+    seats: &mut [Seat<T>],
+    shape: Shape,
+    fingerprint: u32,
+    words: &mut [u32],
+) -> Option<usize>
     requires sizes { ⌜ (length (now seats) ≡ shape .buckets * shape .most) × (2 * shape .buckets ≤ length (now words)) ⌝ }
     requires below { ⌜ fingerprint < size shape .range ⌝ }
     ensures seat { λ r. ⌜ Cases r

@@ -56,7 +56,13 @@ fn begin(shape: Shape, fingerprint: u32, links: &mut [u32], queue: &mut [u32]) -
 {
     forget(links);
     let first = visit(links, queue, 0, shape.place(fingerprint, true).bucket, ROOT);
-    visit(links, queue, first, shape.place(fingerprint, false).bucket, ROOT)
+    visit(
+        links,
+        queue,
+        first,
+        shape.place(fingerprint, false).bucket,
+        ROOT,
+    )
 }
 
 // Goes through the rows in use of the bucket at the queue's head, once: the first empty seat ends the search, and the other

@@ -72,6 +72,19 @@ module _ {X : Type 0} (e : X) {z : Size} (sound : Sound z) (xs : List (Seat X)) 
         })
         (shows .upright f i sits)
 
+-- a table that is as it was keeps the books that it kept
+pub keeps-same : {V : Type 0} (k : Kind V) (t u : Table V) → now (u .seats) ≡ now (t .seats) → u .shape ≡ t .shape → u .held ≡ t .held → (b : Book V) → Keeps k t b → Keeps k u b
+keeps-same {V} k t u seats shape same b keeps = record {
+  sized = keeps .sized ∙ ap size (sym shape);
+  room = ap (λ (s : Shape). s .buckets * s .most) shape ∙ keeps .room ∙ sym (ap length seats);
+  shows = let P : List (Seat V) → Shape → Type 0 = λ xs s. Shows (k .empty) xs (size s) (b .entries) in
+      subst (λ s. P (now (u .seats)) s) (sym shape) (subst (λ xs. P xs (t .shape)) (sym seats) (keeps .shows));
+  rest = let P : List (Seat V) → Shape → Type 0 = λ xs s. (bucket row : ℕ) → bucket < s .buckets → s .rows ≤ row → row < s .most → at (k .empty) xs (bucket * s .most + row) ≡ vacant (k .empty) in
+      subst (λ s. P (now (u .seats)) s) (sym shape) (subst (λ xs. P xs (t .shape)) (sym seats) (keeps .rest));
+  values = keeps .values;
+  counted = same ∙ keeps .counted;
+}
+
 module _ {V : Type 0} (k : Kind V) (t u : Table V) (f : ℕ) (entry : Option V) where
   -- the seats of u are those of t but for the entry of f
   pub record Changes : Type 0 where
@@ -101,15 +114,16 @@ module _ {V : Type 0} (k : Kind V) (t u : Table V) (f : ℕ) (entry : Option V) 
 
   -- the book's turn makes the same change
   pub record TurnsSo (rule : Meaning) (c : Call V) (a : Answer V) (b : Book V) : Type 0 where
+    pub changes : Changes
     pub turns : turn k rule b c ≡ record { answer = a; book = enter b f entry }
     pub value : (v : V) → entry ≡ Some v → k .is-value v ≡ true
     pub count : u .held ≡ holding (enter b f entry)
 
-  pub did-change : (rule : Meaning) (c : Call V) (a : Answer V) → Changes → name (u .seats) ≡ name (t .seats) → ((why : Refusal) → a ≡ Refused why → ⊥) →
+  pub did-change : (rule : Meaning) (c : Call V) (a : Answer V) → name (u .seats) ≡ name (t .seats) → ((why : Refusal) → a ≡ Refused why → ⊥) →
       ((b : Book V) → Keeps k t b → TurnsSo rule c a b) → Did k rule t c a u
-  did-change rule c a changes lent accepted so = record {
+  did-change rule c a lent accepted so = record {
     answers = λ b keeps. sym (ap (λ (x : Turn V). x .answer) (so b keeps .turns));
-    keeps = λ b keeps. subst (λ (x : Turn V). Keeps k u (x .book)) (sym (so b keeps .turns)) (keeps-changed changes b keeps (so b keeps .value) (so b keeps .count));
+    keeps = λ b keeps. subst (λ (x : Turn V). Keeps k u (x .book)) (sym (so b keeps .turns)) (keeps-changed (so b keeps .changes) b keeps (so b keeps .value) (so b keeps .count));
     still = λ why is _. absurd (accepted why is);
     lent = lent;
   }

@@ -3,3 +3,4 @@ pub mod Reading
 pub mod Changing
 pub mod Reversing
 pub mod Resizing
+pub mod Posting

@@ -31,7 +31,7 @@ not-both b p q = let z : _≡_ {A = ℕ} 0 1 = cc in omega arith
 none-some : {X : Type 0} (x : X) → None ≡ Some x → ⊥
 none-some x is = let z : _≡_ {A = ℕ} 0 1 = cc in omega arith
 
-some-some : {X : Type 0} (x y : X) → Some x ≡ Some y → x ≡ y
+pub some-some : {X : Type 0} (x y : X) → Some x ≡ Some y → x ≡ y
 some-some x y is = cc
 
 -- the seat i of t, which f sits in, is written
@@ -75,8 +75,9 @@ module _ {V : Type 0} (k : Kind V) (rule : Meaning) (t : Table V) (key : List �
       now (u .seats) ≡ set (now (t .seats)) i (vacant (k .empty)) → u .shape ≡ t .shape → u .held ≡ t .held - 1 → name (u .seats) ≡ name (t .seats) → Did k rule t (erase key) (Tallied v) u
   erased-some u i v sits got seats shape fewer lent =
       let reads = reads-some k t f i v sits got in
-      did-change k t u f None rule (erase key) (Tallied v) (empties k t u f i sits shape seats) lent (tallied-accepts v)
+      did-change k t u f None rule (erase key) (Tallied v) lent (tallied-accepts v)
       (λ b keeps. record {
+        changes = empties k t u f i sits shape seats;
         turns =
             passed b (too-long key) LongKey _ short
             ∙ ap (erased b (fingerprint rule b key)) (same-entry k rule t b key f (Some v) asked reads keeps)
@@ -113,8 +114,9 @@ module _ {V : Type 0} (k : Kind V) (rule : Meaning) (t : Table V) (key : List �
 
       pub reversed-all : k .is-empty w ≡ true → now (u .seats) ≡ set (now (t .seats)) i (vacant (k .empty)) → u .held ≡ t .held - 1 → Did k rule t (reverse key amount) (Held None) u
       reversed-all gone seats fewer =
-          did-change k t u f None rule (reverse key amount) (Held None) (empties k t u f i sits shape seats) lent (held-accepts None)
+          did-change k t u f None rule (reverse key amount) (Held None) lent (held-accepts None)
           (λ b keeps. record {
+            changes = empties k t u f i sits shape seats;
             turns = leaves b true gone keeps;
             value = λ x is. absurd (none-some x is);
             count = let one = one-fewer b f (low k t u f i sits shape b keeps) v (reads (b .entries) (keeps .shows)) in omega (arith, keeps .counted);
@@ -124,8 +126,9 @@ module _ {V : Type 0} (k : Kind V) (rule : Meaning) (t : Table V) (key : List �
           Did k rule t (reverse key amount) (Held (Some w)) u
       reversed-part lawful stays seats same =
           let some : w ≡ k .empty → ⊥ = λ is. not-both (k .is-empty w) (lawful .empty-told w .1 is) stays in
-          did-change k t u f (Some w) rule (reverse key amount) (Held (Some w)) (retallies k t u f i sits shape w some seats) lent (held-accepts (Some w))
+          did-change k t u f (Some w) rule (reverse key amount) (Held (Some w)) lent (held-accepts (Some w))
           (λ b keeps. record {
+            changes = retallies k t u f i sits shape w some seats;
             turns = leaves b false stays keeps;
             value = λ x is.
                 let was = keeps .values f v (reads (b .entries) (keeps .shows)) in

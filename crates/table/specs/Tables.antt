@@ -1,6 +1,7 @@
 -- When a table keeps a book, and what a call has done. Assumes nothing.
 use mathlib.Core.Path.{_≡_}
 use mathlib.Core.Bool.{Bool, true, false}
+use mathlib.Core.List.{List}
 use Prim.Native.Nat.{ℕ, _+_, _*_, _<_, _≤_}
 use lib.ListN.{length, replicate}
 use denote.Ref.{now, name}
@@ -8,7 +9,7 @@ use Rattle.std.specs.declared.option.Option.the-variants.{Some}
 use Rattle.tallies.specs.Kinds.{Kind}
 use Rattle.rules.specs.Rules.{Meaning}
 use Rattle.seats.specs.declared.refusal.Refusal.{Refusal}
-use Rattle.seats.specs.declared.refusal.Refusal.the-variants.{NoNarrowSeating}
+use Rattle.seats.specs.declared.refusal.Refusal.the-variants.{Buckets, Rows, Seats, Words, LongKey, NoAmount, Ceiling, NoSeating, NotHeld, NotTakenBack, RowLimit, NoNarrowSeating}
 use Rattle.seats.specs.Shapes.{size}
 use Rattle.seats.specs.Seats.{Shows, at, vacant}
 use Rattle.book.specs.declared.answer.Answer.{Answer}
@@ -42,3 +43,22 @@ pub record Did {V : Type 0} (k : Kind V) (rule : Meaning) (t : Table V) (c : Cal
   pub keeps : (b : Book V) → Keeps k t b → Keeps k u (after k rule b c)
   pub still : (why : Refusal) → a ≡ Refused why → (why ≡ NoNarrowSeating → ⊥) → now (u .seats) ≡ now (t .seats)
   pub lent : name (u .seats) ≡ name (t .seats)
+
+-- the refusals that come before the work words are used
+abbrev pub is-early : Refusal → Bool
+is-early Buckets = false
+is-early Rows = false
+is-early Seats = false
+is-early Words = true
+is-early LongKey = true
+is-early NoAmount = true
+is-early Ceiling = false
+is-early NoSeating = false
+is-early NotHeld = false
+is-early NotTakenBack = false
+is-early RowLimit = true
+is-early NoNarrowSeating = false
+
+-- such a refusal leaves the work words as they were
+abbrev pub SparesWords : {V : Type 0} → Answer V → List ℕ → List ℕ → Type 0
+SparesWords a words words′ = (why : Refusal) → a ≡ Refused why → is-early why ≡ true → words′ ≡ words

@@ -2,6 +2,7 @@ use seats::seat::Seat;
 use seats::shape::Shape;
 
 mod changes;
+mod post;
 mod reads;
 mod rows;
 

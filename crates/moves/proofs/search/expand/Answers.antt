@@ -68,7 +68,7 @@ loop-row-again g c =
     in
     let carry = ap (λ (s : Seat (g .T .Denot)). s .carry) read in
     elim (c .if-seat-shape .came) [
-      then-seat-shape w ↦
+      | then-seat-shape w ↦
           subst (λ n. Expanding e xs z (getD queue head 0) (c .loop-row .row + 1) links queue head (c .args .tail) (c .if-seat-shape .links) (c .if-seat-shape .queue) n) (sym (w .end-is))
           (subst (λ q. Expanding e xs z (getD queue head 0) (c .loop-row .row + 1) links queue head (c .args .tail) (c .if-seat-shape .links) q (w .visit-end .result)) (sym (w .queue-is))
           (subst (λ l. Expanding e xs z (getD queue head 0) (c .loop-row .row + 1) links queue head (c .args .tail) l (w .visit-end .last .queue) (w .visit-end .result)) (sym (w .links-is))
