@@ -18,7 +18,7 @@ use Rattle.seats.specs.Places.{place-of, given-back}
 use Rattle.seats.specs.Seats.{at, vacant, Filled, Sits, Shows, changed}
 
 -- one fingerprint has a place
-place-back : (m f : ℕ) (flag : Bool) → given-back m (place-of m f flag) ≡ f
+pub place-back : (m f : ℕ) (flag : Bool) → given-back m (place-of m f flag) ≡ f
 place-back m f true = div-add-mod' f m
 place-back m f false = div-add-mod' f m
 

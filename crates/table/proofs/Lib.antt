@@ -4,3 +4,4 @@ pub mod Changing
 pub mod Reversing
 pub mod Resizing
 pub mod Posting
+pub mod Narrowing

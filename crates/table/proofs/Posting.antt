@@ -29,23 +29,11 @@ use Rattle.book.specs.declared.answer.Answer.{Answer}
 use Rattle.book.specs.declared.answer.Answer.the-variants.{Tallied, Refused}
 use Rattle.book.specs.Books.{Book, Call, Turn, post, enter, fingerprint, too-few, too-long, has-room, check, turn, turned-away, gets, joined, posted, holding}
 use Rattle.table.specs.declared.table.Table.{Table}
-use Rattle.table.specs.Tables.{Keeps, Did, is-early}
+use Rattle.table.specs.Tables.{Keeps, Did}
 use Rattle.table.proofs.Counted.{as-many, one-more, holding-few}
 use Rattle.table.proofs.Reading.{SitsIn, Reads, Asked, passed, stopped, reads-some, same-fingerprint, same-entry, unmoved}
 use Rattle.table.proofs.Changing.{Changes, did-change, keeps-same, tallied-accepts}
 use Rattle.table.proofs.Reversing.{retallies, low, some-some}
-
--- what bars placing is told by the words' being spared
-pub spared : {V : Type 0} (bars : Option Refusal) (why : Refusal) (U Same : Type 0) → (bars ≡ Some why) ⊎ ((bars ≡ None) × (why ≡ NoSeating) × U) → ((bars ≡ None → ⊥) → Same) →
-    (other : Refusal) → _≡_ {A = Answer V} (Refused why) (Refused other) → is-early other ≡ true → Same
-spared bars why U Same (inl barred-by) kept other is early = kept (λ none. let z : _≡_ {A = ℕ} 0 1 = cc in absurd (omega arith))
-spared {V} bars why U Same (inr (none, no-seating, _)) kept other is early =
-    let same : other ≡ NoSeating = sym (refused-same why other is) ∙ no-seating in
-    let never : false ≡ true = sym (ap is-early same) ∙ early in
-    absurd (grind arith)
-  where
-    refused-same : (x y : Refusal) → _≡_ {A = Answer V} (Refused x) (Refused y) → x ≡ y
-    refused-same x y e = cc
 
 -- a table that keeps a book is not barred from placing an amount
 pub unbarred : {V : Type 0} (k : Kind V) → Lawful k → (t : Table V) (b : Book V) (amount : V) (words : ℕ) → Keeps k t b → 2 * t .shape .buckets ≤ words → k .is-amount amount ≡ true →

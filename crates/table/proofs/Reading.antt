@@ -2,7 +2,9 @@
 use mathlib.Core.Path.{_≡_, refl, sym, ap, subst, _∙_}
 use mathlib.Core.Bool.{Bool, true, false, cond}
 use mathlib.Core.List.{List}
+use mathlib.Core.Logic.{_⊎_, inl, inr}
 use Prim.Native.Nat.{ℕ, _<_}
+use native.Mathlib.Omega.{arith}
 use lib.ListN.{length}
 use denote.Ref.{now}
 use Rattle.std.specs.declared.option.Option.{Option}
@@ -19,7 +21,7 @@ use Rattle.book.specs.declared.answer.Answer.{Answer}
 use Rattle.book.specs.declared.answer.Answer.the-variants.{Held, Refused}
 use Rattle.book.specs.Books.{Book, Call, Turn, look-up, fingerprint, too-long, check, turn, turned-away}
 use Rattle.table.specs.declared.table.Table.{Table}
-use Rattle.table.specs.Tables.{Keeps, Did}
+use Rattle.table.specs.Tables.{Keeps, Did, is-early}
 
 -- a check that turns the call away, and one that it passes
 pub stopped : {V : Type 0} (b : Book V) (test : Bool) (why : Refusal) (rest : Turn V) → test ≡ true → check b test why rest ≡ turned-away b why
@@ -27,6 +29,17 @@ stopped b test why rest is = ap (λ x. check b x why rest) is
 
 pub passed : {V : Type 0} (b : Book V) (test : Bool) (why : Refusal) (rest : Turn V) → test ≡ false → check b test why rest ≡ rest
 passed b test why rest is = ap (λ x. check b x why rest) is
+
+-- work words that only a late refusal leaves changed are spared by the early ones
+pub spared : {V : Type 0} (late : Refusal) → is-early late ≡ false → (bars : Option Refusal) (why : Refusal) (Same : Type 0) → (bars ≡ Some why) ⊎ ((bars ≡ None) × (why ≡ late)) → ((bars ≡ None → ⊥) → Same) →
+    (other : Refusal) → _≡_ {A = Answer V} (Refused why) (Refused other) → is-early other ≡ true → Same
+spared late is-late bars why Same (inl barred) kept other is early = kept (λ none. let z : _≡_ {A = ℕ} 0 1 = cc in absurd (omega arith))
+spared {V} late is-late bars why Same (inr (none, same)) kept other is early =
+    let never : false ≡ true = sym is-late ∙ ap is-early (sym same ∙ refused-same why other is) ∙ early in
+    absurd (grind arith)
+  where
+    refused-same : (x y : Refusal) → _≡_ {A = Answer V} (Refused x) (Refused y) → x ≡ y
+    refused-same x y e = cc
 
 module _ {V : Type 0} (k : Kind V) where
   -- f sits in the seat i of the table, or nowhere

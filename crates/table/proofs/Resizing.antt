@@ -17,57 +17,14 @@ use Rattle.seats.specs.declared.refusal.Refusal.the-variants.{RowLimit}
 use Rattle.seats.specs.declared.seat.Seat.{Seat}
 use Rattle.seats.specs.declared.shape.Shape.{Shape}
 use Rattle.seats.specs.Shapes.{Size, size, with-rows}
-use Rattle.seats.specs.Seats.{Shows, Sits, Filled, at, vacant}
+use Rattle.seats.specs.Seats.{Shows, at, vacant}
+use Rattle.narrowing.proofs.Resized.{shows-resized}
 use Rattle.book.specs.declared.answer.Answer.{Answer}
 use Rattle.book.specs.declared.answer.Answer.the-variants.{Sized, Refused}
 use Rattle.book.specs.Books.{Book, Call, Turn, widen, check, turn, turned-away, resize, resized, holding}
 use Rattle.table.specs.declared.table.Table.{Table}
 use Rattle.table.specs.Tables.{Keeps, Did}
 use Rattle.table.proofs.Reading.{unmoved}
-
--- what the rows in use show, other rows show too, if all filled seats lie in both and what is new is empty
-module _ {X : Type 0} (e : X) (xs : List (Seat X)) (z : Size) (rows : ℕ)
-    (both : (bucket row : ℕ) → bucket < z .buckets → row < z .rows → Filled e xs (bucket * z .most + row) → row < rows)
-    (new : (bucket row : ℕ) → bucket < z .buckets → row < rows → z .rows ≤ row → at e xs (bucket * z .most + row) ≡ vacant e) where
-  onward : (f i : ℕ) → Sits e xs z f i → Sits e xs (with-rows z rows) f i
-  onward f i s = record {
-    bucket = s .bucket;
-    row = s .row;
-    in-table = s .in-table;
-    in-rows = both (s .bucket) (s .row) (s .in-table) (s .in-rows) (subst (Filled e xs) (s .lies) (s .filled));
-    lies = s .lies;
-    filled = s .filled;
-    home = s .home;
-    carried = s .carried;
-    below = s .below;
-  }
-
-  old : (bucket row : ℕ) → bucket < z .buckets → row < rows → Filled e xs (bucket * z .most + row) → row < z .rows
-  old bucket row b r filled =
-      ⊎-elim (λ lt. lt) (λ past. absurd (filled (ap (λ (s : Seat X). s .tally) (new bucket row b r past)))) (cases-lt row (z .rows))
-
-  back : (f i : ℕ) → Sits e xs (with-rows z rows) f i → Sits e xs z f i
-  back f i s = record {
-    bucket = s .bucket;
-    row = s .row;
-    in-table = s .in-table;
-    in-rows = old (s .bucket) (s .row) (s .in-table) (s .in-rows) (subst (Filled e xs) (s .lies) (s .filled));
-    lies = s .lies;
-    filled = s .filled;
-    home = s .home;
-    carried = s .carried;
-    below = s .below;
-  }
-
-  pub shows-resized : (entries : ℕ → Option X) → Shows e xs z entries → Shows e xs (with-rows z rows) entries
-  shows-resized entries shows = record {
-    gives-back = λ bucket row b r filled. let (f, s) = shows .gives-back bucket row b (old bucket row b r filled) filled in (f, onward f _ s);
-    told = λ f i s. shows .told f i (back f i s);
-    seated = λ f t is. let (i, s) = shows .seated f t is in (i, onward f i s);
-    alone = λ f i j s t. shows .alone f i j (back f i s) (back f j t);
-    alike = λ bucket row b r empty. ⊎-elim (λ lt. shows .alike bucket row b lt empty) (λ past. new bucket row b r past) (cases-lt row (z .rows));
-    upright = λ f i s even. shows .upright f i (back f i s) even;
-  }
 
 -- a table whose rows in use alone are other than before
 module _ {V : Type 0} (k : Kind V) (t u : Table V) (buckets : u .shape .buckets ≡ t .shape .buckets) (most : u .shape .most ≡ t .shape .most) (count : u .held ≡ t .held) where

@@ -1,11 +1,13 @@
 use mathlib.Core.Path.{refl, sym}
+use mathlib.Core.Logic.{inl, inr, ⊎-elim}
 use native.Mathlib.Omega.{arith}
 use lib.ListN.{length}
 use Rattle.std.proofs.shelf.Results.{err-from-errBy}
 use Rattle.std.proofs.shelf.Tests.{le-ltb}
-use Rattle.table.proofs.Reading.{reads-none, reads-some, sits-inside}
+use Rattle.seats.specs.declared.refusal.Refusal.the-variants.{NoSeating}
+use Rattle.table.proofs.Reading.{spared, reads-none, reads-some, sits-inside}
 use Rattle.table.proofs.Changing.{tallied-accepts}
-use Rattle.table.proofs.Posting.{spared, posted-over, posted-more, posted-new, posted-full}
+use Rattle.table.proofs.Posting.{posted-over, posted-more, posted-new, posted-full}
 use Rattle.table.proofs.table.Table.post.Needs as need
 
 pub tally-of-requires : need.tally-of-requires
@@ -52,5 +54,5 @@ returns-in-Break-place g c =
           (omega arith) (le-ltb 64 (length (c .args .key .now)) (c .if-key-gt-LONGEST .left)) (sym (c .if-not-is-amount .ensures tt .value)) (c .fingerprint-fingerprint .ensures .value)
           (reads-none (g .T·Tally .kind) (c .args .self .now) (c .fingerprint-fingerprint .result) (c .in-None .ensures tt))
           _ _ (c .in-Break-place .ensures tt .placed .same) refl refl refl (g .T·Tally·met .lawful) (c .in-Break-place .ensures tt .placed .reason) (c .fingerprint-fingerprint .ensures .below);
-      words = spared _ _ _ _ (c .in-Break-place .ensures tt .placed .reason) (c .in-Break-place .ensures tt .kept);
+      words = spared NoSeating refl _ _ _ (⊎-elim inl (λ h. inr (h .0, h .1)) (c .in-Break-place .ensures tt .placed .reason)) (c .in-Break-place .ensures tt .kept);
     })

@@ -1,0 +1,3 @@
+mod Clearing
+mod Lowering
+pub mod Resized
