@@ -5,3 +5,4 @@ pub mod Reversing
 pub mod Resizing
 pub mod Posting
 pub mod Narrowing
+pub mod Asking

@@ -1,2 +1,3 @@
 // The table of flows: opening, its calls, and requests for them.
+pub mod request;
 pub mod table;

@@ -1,6 +1,7 @@
 use seats::seat::Seat;
 use seats::shape::Shape;
 
+mod call;
 mod changes;
 mod post;
 mod reads;
