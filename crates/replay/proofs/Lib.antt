@@ -1,0 +1,2 @@
+pub mod Accounts
+mod Replaying
