@@ -1,12 +1,12 @@
 -- What placing a new entry promises. `k` is the kind of tally, f the new fingerprint; the seats are `before` and `after` the
 -- call, and `words` is how many work words were lent. Assumes nothing.
 use mathlib.Core.Path.{_≡_}
-use mathlib.Core.Bool.{Bool, cond, not}
+use mathlib.Core.Bool.{Bool, false, cond, not}
 use mathlib.Core.List.{List}
 use mathlib.Core.Logic.{_⊎_}
-use Prim.Native.Nat.{ℕ, _*_, _<_}
+use Prim.Native.Nat.{ℕ, _*_, _/_, _<_}
 use lib.Dec.{eqb, ltb}
-use lib.ListN.{length}
+use lib.ListN.{length, set}
 use Rattle.std.specs.declared.option.Option.{Option}
 use Rattle.std.specs.declared.option.Option.the-variants.{Some, None}
 use Rattle.std.specs.declared.result.Result.{Result}
@@ -19,7 +19,7 @@ use Rattle.seats.specs.declared.seat.Seat.{Seat}
 use Rattle.seats.specs.Shapes.{Size}
 use Rattle.seats.specs.Places.{place-of}
 use Rattle.seats.specs.Seats.{Free, Lies, Shows, held, changed}
-use Rattle.moves.specs.Walk.{Beyond, Opened}
+use Rattle.moves.specs.Walk.{entered, Beyond, Opened}
 
 -- what turns the call away at once, by how many seats and words were lent, and whether the tally is empty
 abbrev pub barred : Size → ℕ → ℕ → Bool → Option Refusal
@@ -32,25 +32,40 @@ barred z seats words empty =
 abbrev pub Own : Size → ℕ → ℕ → Type 0
 Own z f i = (flag : Bool) × Lies z (place-of (z .buckets) f flag .bucket) i
 
+-- the seat i is free, in the quotient's bucket of f or, where that has no free seat, in the remainder's
+pub record First {X : Type 0} (e : X) (seats : List (Seat X)) (z : Size) (f i : ℕ) : Type 0 where
+  pub flag : Bool
+  pub lies : Lies z (place-of (z .buckets) f flag .bucket) i
+  pub free : Free e seats i
+  pub before : flag ≡ false → (j : ℕ) → Lies z (f / z .buckets) j → Free e seats j → ⊥
+
+-- no bucket of f has a free seat
+abbrev pub Crowded : {X : Type 0} → X → List (Seat X) → Size → ℕ → Type 0
+Crowded e seats z f = (i : ℕ) → Own z f i → Free e seats i → ⊥
+
 -- what the seats show has no seating together with f
 abbrev pub Unseatable : {X : Type 0} → X → List (Seat X) → Size → ℕ → Type 0
 Unseatable {X} e seats z f = f < z .range → (entries : ℕ → Option X) → Shows e seats z entries → entries f ≡ None →
     Seating (z .buckets) (z .rows) (z .range) (also f (held entries)) → ⊥
 
--- a seat of one of the buckets of f is open for its entry
-abbrev pub Ready : {X : Type 0} → X → List (Seat X) → List (Seat X) → Size → ℕ → ℕ → Type 0
-Ready e before after z f hole = (flag : Bool) × Opened e before after z (place-of (z .buckets) f flag .bucket) hole
+-- a seat of one of the buckets of f is open for its entry, and nothing has moved unless they were full
+pub record Ready {X : Type 0} (e : X) (before after : List (Seat X)) (z : Size) (f hole : ℕ) : Type 0 where
+  pub flag : Bool
+  pub opened : Opened e before after z (place-of (z .buckets) f flag .bucket) hole
+  pub direct : Crowded e before z f ⊎ ((after ≡ before) × First e before z f hole)
 
 -- there was none, and the seats are as they were
 pub record NotReady {X : Type 0} (e : X) (before after : List (Seat X)) (z : Size) (f : ℕ) : Type 0 where
   pub same : after ≡ before
   pub unseatable : Unseatable e before z f
 
--- the entry is in: whatever the seats showed without f, they show with it, and the rows not in use are as they were
+-- the entry is in: whatever the seats showed without f, they show with it; the rows not in use are as they were; and where a
+-- bucket of f had a free seat, the entry took the first and nothing else changed
 pub record Accepted {X : Type 0} (e : X) (before after : List (Seat X)) (z : Size) (f : ℕ) (tally : X) : Type 0 where
   pub below : f < z .range
   pub shows : (entries : ℕ → Option X) → Shows e before z entries → entries f ≡ None → Shows e after z (changed entries f (Some tally))
   pub beyond : Beyond e before after z
+  pub direct : Crowded e before z f ⊎ ((hole : ℕ) × First e before z f hole × (after ≡ set before hole (entered z f hole tally)))
 
 -- the entry is not in, for this reason, and the seats are as they were
 pub record Refused {X : Type 0} (e : X) (before after : List (Seat X)) (z : Size) (f : ℕ) (bar : Option Refusal) (why : Refusal) : Type 0 where
@@ -65,6 +80,6 @@ abbrev pub Placed : {X U : Type 0} → Kind X → List (Seat X) → List (Seat X
 Placed k before after z f tally words (Ok _) = (bar k before z tally words ≡ None) × Accepted (k .empty) before after z f tally
 Placed k before after z f tally words (Err why) = Refused (k .empty) before after z f (bar k before z tally words) why
 
--- the work words are as they were where a bucket of f has a free seat
+-- the work words are as they were, unless no bucket of f has a free seat
 abbrev pub Spared : {X : Type 0} → X → List (Seat X) → Size → ℕ → List ℕ → List ℕ → Type 0
-Spared e before z f words words′ = (i : ℕ) → Own z f i → Free e before i → words′ ≡ words
+Spared e before z f words words′ = Crowded e before z f ⊎ (words′ ≡ words)

@@ -1,12 +1,11 @@
 // Placing a new entry: in a free seat of its own buckets, or else by moves.
 ghost use mathlib.Core.Path.{_≡_};
-ghost use Prim.Native.Nat.{ℕ, _*_, _<_, _≤_};
+ghost use Prim.Native.Nat.{_*_, _<_, _≤_};
 ghost use lib.ListN.{length};
 ghost use Rattle.std.specs.Options.{Cases};
 ghost use Rattle.std.specs.declared.option.Option.the-variants.{None};
 ghost use Rattle.seats.specs.Shapes.{size};
-ghost use Rattle.seats.specs.Seats.{Free};
-ghost use Rattle.moves.specs.Placed.{bar, Own, Ready, NotReady, Placed, Spared};
+ghost use Rattle.moves.specs.Placed.{bar, Crowded, First, Ready, NotReady, Placed, Spared};
 use crate::search::search;
 use crate::walk::enter;
 use crate::walk::walk_back;
@@ -19,8 +18,8 @@ use tallies::tally::Tally;
 // The first free seat of the fingerprint's own buckets, the quotient's before the remainder's.
 fn own_seat<T: Tally + Copy>(seats: &[Seat<T>], shape: Shape, fingerprint: u32) -> Option<usize>
     ensures { λ r. ⌜ Cases r
-        ((i : ℕ) → Own (size shape) fingerprint i → Free (T·Tally .kind .empty) (now (seats .entry)) i → ⊥)
-        (λ i. Own (size shape) fingerprint i × Free (T·Tally .kind .empty) (now (seats .entry)) i) ⌝ }
+        (Crowded (T·Tally .kind .empty) (now (seats .entry)) (size shape) fingerprint)
+        (λ i. First (T·Tally .kind .empty) (now (seats .entry)) (size shape) fingerprint i) ⌝ }
 {
     if let Some(i) = free_seat(seats, shape, shape.place(fingerprint, true).bucket) {
         return Some(i);
