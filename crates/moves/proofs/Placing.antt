@@ -23,9 +23,9 @@ use Rattle.moves.proofs.Moved.{shows-new}
 use Rattle.moves.proofs.Walks.{bucket-of, beyond-set, opened-free}
 
 -- a seat that is open at a root is open in a bucket of f
-pub ready-root : {X : Type 0} {e : X} {before after : List (Seat X)} {z : Size} {f hole bucket : ℕ} (links : List ℕ) → Roots z f links → getD links bucket 0 ≡ root →
+pub ready-root : {X : Type 0} {e : X} {before after : List (Seat X)} (z : Size) (f : ℕ) {hole bucket : ℕ} (links : List ℕ) → Roots z f links → getD links bucket 0 ≡ root →
     Opened e before after z bucket hole → Crowded e before z f → Ready e before after z f hole
-ready-root {e} {before} {after} {z} {f} {hole} {bucket} links roots is o crowded =
+ready-root {e} {before} {after} z f {hole} {bucket} links roots is o crowded =
     ⊎-elim
     (λ (at-q : bucket ≡ f / z .buckets). record { flag = true; opened = subst (λ b. Opened e before after z b hole) at-q o; direct = inl crowded })
     (λ (at-r : bucket ≡ f % z .buckets). record { flag = false; opened = subst (λ b. Opened e before after z b hole) at-r o; direct = inl crowded })

@@ -1,5 +1,6 @@
 use mathlib.Core.Path.{refl}
 use mathlib.Core.Logic.{inl, inr}
+use Rattle.seats.specs.Shapes.{size}
 use Rattle.seats.proofs.Sitting.{shape-sound}
 use Rattle.moves.proofs.Refuting.{unseatable}
 use Rattle.moves.proofs.Placing.{ready-root, ready-first}
@@ -22,4 +23,4 @@ pub returns-in-Some-search : need.returns-in-Some-search
 returns-in-Some-search g c =
     let crowded = c .in-rest .ensures tt in
     let (bucket, at-root, opened) = c .walk-back .ensures in
-    record { seat = ready-root (c .search .last .links) (c .in-Some-search .ensures tt .roots) at-root opened crowded; spared = inl crowded }
+    record { seat = ready-root (size (c .args .shape)) (c .args .fingerprint) (c .search .last .links) (c .in-Some-search .ensures tt .roots) at-root opened crowded; spared = inl crowded }
