@@ -2,22 +2,24 @@
 use mathlib.Core.Path.{_≡_, refl, sym, ap, subst, _∙_}
 use mathlib.Core.Bool.{Bool, true, false, cond}
 use mathlib.Core.List.{List}
-use mathlib.Core.Logic.{inl, inr, ⊎-elim}
+use mathlib.Core.Logic.{_⊎_, inl, inr, ⊎-elim}
 use Prim.Native.Nat.{ℕ, _+_, _*_, _/_, _%_, _≤_, _<_}
 use native.Mathlib.Omega.{arith}
 use lib.Dec.{eqb}
 use lib.ListN.{length, getD, set}
 use Rattle.std.proofs.shelf.Lists.{getD-set-same, length-set, set-set}
 use Rattle.std.proofs.shelf.Tests.{cond-true, cond-false, cases-bool, eq-eqb, eqb-true, eqb-false}
+use Rattle.tallies.specs.Kinds.{Kind}
 use Rattle.seats.specs.declared.seat.Seat.{Seat}
 use Rattle.seats.specs.Shapes.{Size, Sound}
 use Rattle.seats.specs.Places.{place-of}
 use Rattle.seats.specs.Seats.{at, vacant, Sits, Shows, changed}
-use Rattle.std.specs.declared.option.Option.the-variants.{Some}
+use Rattle.std.specs.declared.option.Option.the-variants.{Some, None}
 use Rattle.seats.proofs.Sitting.{bucket-below}
 use Rattle.moves.specs.Queue.{root, Roots}
 use Rattle.moves.specs.Walk.{entered, Opened}
-use Rattle.moves.specs.Placed.{First, Crowded, Ready, Accepted}
+use Rattle.moves.specs.Opening.{First, Crowded, Ready}
+use Rattle.moves.specs.Placed.{Accepted, bar, Spared}
 use Rattle.moves.proofs.Searches.{lies-inside}
 use Rattle.moves.proofs.Moved.{shows-new}
 use Rattle.moves.proofs.Walks.{bucket-of, beyond-set, opened-free}
@@ -56,9 +58,9 @@ module _ {X : Type 0} {e : X} {before after : List (Seat X)} {z : Size} {hole : 
   by-flag true is = let yes = eq-eqb (hole / z .most) (f / z .buckets) is in (is ∙ sym (cond-true flag (f / z .buckets) (f % z .buckets) yes), λ _. yes)
   by-flag false is = (
     ⊎-elim
-    (λ yes. eqb-true (hole / z .most) (f / z .buckets) yes ∙ sym (cond-true flag (f / z .buckets) (f % z .buckets) yes))
-    (λ no-flag. is ∙ sym (cond-false flag (f / z .buckets) (f % z .buckets) no-flag))
-    (cases-bool flag),
+        (λ yes. eqb-true (hole / z .most) (f / z .buckets) yes ∙ sym (cond-true flag (f / z .buckets) (f % z .buckets) yes))
+        (λ no-flag. is ∙ sym (cond-false flag (f / z .buckets) (f % z .buckets) no-flag))
+        (cases-bool flag),
     λ even. eq-eqb (hole / z .most) (f / z .buckets) (is ∙ sym even),
   )
 
@@ -92,3 +94,8 @@ module _ {X : Type 0} {e : X} {before after : List (Seat X)} {z : Size} {hole : 
         beyond = beyond-set e before after sound _ hole (o .lies) x (o .beyond);
         direct = ⊎-elim inl (λ d. inr (hole, d .1, ap (λ l. set l hole x) (d .0))) (ready .direct);
       })
+
+-- the work words, where the call was let in
+pub spared : {X : Type 0} (k : Kind X) (before : List (Seat X)) (z : Size) (f : ℕ) (tally : X) (words words′ : List ℕ) → bar k before z tally (length words) ≡ None → f < z .range →
+    (words′ ≡ words) ⊎ Crowded (k .empty) before z f → Spared k before z f tally words words′
+spared k before z f tally words words′ let-in below either = ⊎-elim inl (λ crowded. inr (let-in, below, crowded)) either

@@ -2,4 +2,5 @@ pub mod Queue
 pub mod Tree
 pub mod Search
 pub mod Walk
+pub mod Opening
 pub mod Placed

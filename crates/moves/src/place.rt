@@ -1,11 +1,12 @@
 // Placing a new entry: in a free seat of its own buckets, or else by moves.
+ghost use mathlib.Core.Logic.{_⊎_};
 ghost use mathlib.Core.Path.{_≡_};
 ghost use Prim.Native.Nat.{_*_, _<_, _≤_};
 ghost use lib.ListN.{length};
 ghost use Rattle.std.specs.Options.{Cases};
-ghost use Rattle.std.specs.declared.option.Option.the-variants.{None};
 ghost use Rattle.seats.specs.Shapes.{size};
-ghost use Rattle.moves.specs.Placed.{bar, Crowded, First, Ready, NotReady, Placed, Spared};
+ghost use Rattle.moves.specs.Opening.{Crowded, First, Ready, NotReady};
+ghost use Rattle.moves.specs.Placed.{Placed, Spared};
 use crate::search::search;
 use crate::walk::enter;
 use crate::walk::walk_back;
@@ -28,13 +29,18 @@ fn own_seat<T: Tally + Copy>(seats: &[Seat<T>], shape: Shape, fingerprint: u32) 
 }
 
 // Opens a seat for the fingerprint in one of its buckets, by moves if they are full.
-fn open_seat<T: Tally + Copy>(seats: &mut [Seat<T>], shape: Shape, fingerprint: u32, words: &mut [u32]) -> Option<usize>
+fn open_seat<T: Tally + Copy>(
+    seats: &mut [Seat<T>],
+    shape: Shape,
+    fingerprint: u32,
+    words: &mut [u32],
+) -> Option<usize>
     requires sizes { ⌜ (length (now seats) ≡ shape .buckets * shape .most) × (2 * shape .buckets ≤ length (now words)) ⌝ }
     requires below { ⌜ fingerprint < size shape .range ⌝ }
     ensures seat { λ r. ⌜ Cases r
         (NotReady (T·Tally .kind .empty) (now (seats .entry)) (now (seats .exit)) (size shape) fingerprint)
         (λ hole. Ready (T·Tally .kind .empty) (now (seats .entry)) (now (seats .exit)) (size shape) fingerprint hole) ⌝ }
-    ensures spared { λ _. ⌜ Spared (T·Tally .kind .empty) (now (seats .entry)) (size shape) fingerprint (now (words .entry)) (now (words .exit)) ⌝ }
+    ensures spared { λ _. ⌜ (now (words .exit) ≡ now (words .entry)) ⊎ Crowded (T·Tally .kind .empty) (now (seats .entry)) (size shape) fingerprint ⌝ }
 {
     if let Some(i) = own_seat(seats, shape, fingerprint) {
         return Some(i);
@@ -56,8 +62,7 @@ pub fn place<T: Tally + Copy>(
     words: &mut [u32],
 ) -> Result<(), Refusal>
     ensures placed { λ r. ⌜ Placed (T·Tally .kind) (now (seats .entry)) (now (seats .exit)) (size shape) fingerprint tally (length (now (words .entry))) r ⌝ }
-    ensures spared { λ _. ⌜ Spared (T·Tally .kind .empty) (now (seats .entry)) (size shape) fingerprint (now (words .entry)) (now (words .exit)) ⌝ }
-    ensures kept { λ _. ⌜ ((bar (T·Tally .kind) (now (seats .entry)) (size shape) tally (length (now (words .entry))) ≡ None → ⊥) → now (words .exit) ≡ now (words .entry)) ⌝ }
+    ensures spared { λ _. ⌜ Spared (T·Tally .kind) (now (seats .entry)) (size shape) fingerprint tally (now (words .entry)) (now (words .exit)) ⌝ }
 {
     if seats.len() != shape.seats() {
         return Err(Refusal::Seats);

@@ -55,8 +55,10 @@ fn begin(shape: Shape, fingerprint: u32, links: &mut [u32], queue: &mut [u32]) -
     ensures { λ r. ⌜ Begun (size shape) fingerprint (now (links .exit)) (now (queue .exit)) r ⌝ }
 {
     forget(links);
-    let first = visit(links, queue, 0, shape.place(fingerprint, true).bucket, ROOT);
-    visit(links, queue, first, shape.place(fingerprint, false).bucket, ROOT)
+    let quotient = shape.place(fingerprint, true).bucket;
+    let remainder = shape.place(fingerprint, false).bucket;
+    let first = visit(links, queue, 0, quotient, ROOT);
+    visit(links, queue, first, remainder, ROOT)
 }
 
 // Goes through the rows in use of the bucket at the queue's head, once: the first empty seat ends the search, and the other

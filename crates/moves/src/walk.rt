@@ -26,7 +26,12 @@ fn move_entry<T: Tally + Copy>(seats: &mut [Seat<T>], from: usize, bucket: u32, 
 
 // Moves each entry of the chain that leads to the free seat on by one, the last first, and gives the seat at the chain's root
 // that is open then. The entry there has moved on too: the seat is to be written.
-pub fn walk_back<T: Tally + Copy>(seats: &mut [Seat<T>], shape: Shape, links: &[u32], free: usize) -> usize
+pub fn walk_back<T: Tally + Copy>(
+    seats: &mut [Seat<T>],
+    shape: Shape,
+    links: &[u32],
+    free: usize,
+) -> usize
     requires sizes { ⌜ (length (now seats) ≡ shape .buckets * shape .most) × (length (now links) ≡ shape .buckets) ⌝ }
     requires chain { ⌜ Chain (T·Tally .kind .empty) (now seats) (size shape) (now links) free ⌝ }
     ensures { λ r. ⌜ ((bucket : ℕ) × (getD (now (links .entry)) bucket 0 ≡ root) ×
@@ -45,11 +50,18 @@ pub fn walk_back<T: Tally + Copy>(seats: &mut [Seat<T>], shape: Shape, links: &[
 }
 
 // Writes the entry of the fingerprint into the seat `hole` of one of its buckets.
-pub fn enter<T: Tally + Copy>(seats: &mut [Seat<T>], shape: Shape, fingerprint: u32, tally: T, hole: usize)
+pub fn enter<T: Tally + Copy>(
+    seats: &mut [Seat<T>],
+    shape: Shape,
+    fingerprint: u32,
+    tally: T,
+    hole: usize,
+)
     requires { ⌜ hole < length (now seats) ⌝ }
     ensures { λ _. ⌜ now (seats .exit) ≡ set (now (seats .entry)) hole (entered (size shape) fingerprint hole tally) ⌝ }
 {
-    let flag = hole / shape.most as usize == (fingerprint / shape.buckets) as usize;
+    let quotient = shape.place(fingerprint, true).bucket;
+    let flag = hole / shape.most as usize == quotient as usize;
     let place = shape.place(fingerprint, flag);
     seats[hole] = Seat {
         carry: place.carry,

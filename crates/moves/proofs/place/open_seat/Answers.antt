@@ -7,7 +7,7 @@ use Rattle.moves.proofs.Placing.{ready-root, ready-first}
 use Rattle.moves.proofs.place.open_seat.Needs as need
 
 pub returns-in-Some : need.returns-in-Some
-returns-in-Some g c = record { seat = ready-first (shape-sound (c .args .shape)) (c .pre .below) (c .in-Some .ensures tt); spared = inr refl }
+returns-in-Some g c = record { seat = ready-first (shape-sound (c .args .shape)) (c .pre .below) (c .in-Some .ensures tt); spared = inl refl }
 
 pub returns-in-None : need.returns-in-None
 returns-in-None g c = record {
@@ -16,11 +16,11 @@ returns-in-None g c = record {
     unseatable = λ below entries shows none.
         unseatable (g .T·Tally .kind .empty) (shape-sound (c .args .shape)) (c .args .seats .now) entries shows (c .args .fingerprint) (c .search .last .links) below none (c .in-None .ensures tt);
   };
-  spared = inl (c .in-rest .ensures tt);
+  spared = inr (c .in-rest .ensures tt);
 }
 
 pub returns-in-Some-search : need.returns-in-Some-search
 returns-in-Some-search g c =
     let crowded = c .in-rest .ensures tt in
     let (bucket, at-root, opened) = c .walk-back .ensures in
-    record { seat = ready-root (size (c .args .shape)) (c .args .fingerprint) (c .search .last .links) (c .in-Some-search .ensures tt .roots) at-root opened crowded; spared = inl crowded }
+    record { seat = ready-root (size (c .args .shape)) (c .args .fingerprint) (c .search .last .links) (c .in-Some-search .ensures tt .roots) at-root opened crowded; spared = inr crowded }

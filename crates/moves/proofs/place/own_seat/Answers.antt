@@ -11,7 +11,7 @@ use Rattle.seats.specs.declared.seat.Seat.{Seat}
 use Rattle.seats.specs.Shapes.{Size, size}
 use Rattle.seats.specs.Places.{place-of}
 use Rattle.seats.specs.Seats.{Free, Lies}
-use Rattle.moves.specs.Placed.{First, Crowded}
+use Rattle.moves.specs.Opening.{First, Crowded}
 use Rattle.moves.proofs.place.own_seat.Needs as need
 
 module _ {X : Type 0} (e : X) (seats : List (Seat X)) (z : Size) (f : ℕ) where

@@ -10,13 +10,13 @@ use Rattle.moves.proofs.search.begin.Needs as need
 
 pub visit-first-requires : need.visit-first-requires
 visit-first-requires c κs =
-    let is = ap (λ (p : Place). p .bucket) (c .place .ensures .value) in
+    let is = ap (λ (p : Place). p .bucket) (c .place-quotient .ensures .value) in
     (omega (arith, bucket-below (shape-sound (c .args .shape)) (c .args .fingerprint) (c .pre .below) true), λ _. omega arith)
 
 pub returns : need.returns
 returns c =
-    let quotient = ap (λ (p : Place). p .bucket) (c .place .ensures .value) in
-    let remainder = ap (λ (p : Place). p .bucket) (c .place-2 .ensures .value) in
+    let quotient = ap (λ (p : Place). p .bucket) (c .place-quotient .ensures .value) in
+    let remainder = ap (λ (p : Place). p .bucket) (c .place-remainder .ensures .value) in
     let links = c .forget .last .links in
     let queue = c .args .queue .now in
     let links′ = c .visit-first .last .links in
