@@ -1,14 +1,14 @@
 -- The new entry, in the seat that is open for it. Assumes nothing.
 use mathlib.Core.Path.{_≡_, refl, sym, ap, subst, _∙_}
-use mathlib.Core.Bool.{Bool, true, false, cond}
+use mathlib.Core.Bool.{Bool, true, false}
 use mathlib.Core.List.{List}
 use mathlib.Core.Logic.{_⊎_, inl, inr, ⊎-elim}
-use Prim.Native.Nat.{ℕ, _+_, _*_, _/_, _%_, _≤_, _<_}
+use Prim.Native.Nat.{ℕ, _*_, _/_, _%_, _<_}
 use native.Mathlib.Omega.{arith}
 use lib.Dec.{eqb}
 use lib.ListN.{length, getD, set}
 use Rattle.std.proofs.shelf.Lists.{getD-set-same, length-set, set-set}
-use Rattle.std.proofs.shelf.Tests.{cond-true, cond-false, cases-bool, eq-eqb, eqb-true, eqb-false}
+use Rattle.std.proofs.shelf.Tests.{cond-true, cond-false, cases-bool, eq-eqb, eqb-true}
 use Rattle.tallies.specs.Kinds.{Kind}
 use Rattle.seats.specs.declared.seat.Seat.{Seat}
 use Rattle.seats.specs.Shapes.{Size, Sound}

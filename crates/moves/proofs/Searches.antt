@@ -1,6 +1,6 @@
 -- The steps of the search. Assumes nothing.
-use borrow.Author.Count.{below-none, below-more}
-use mathlib.Core.Path.{_≡_, refl, sym, ap, subst, _∙_}
+use borrow.Author.Count.{below-more}
+use mathlib.Core.Path.{_≡_, sym, ap, subst, _∙_}
 use mathlib.Core.List.{List}
 use mathlib.Core.Logic.{⊎-elim}
 use Prim.Native.Nat.{ℕ, _+_, _*_, _≤_, _<_}
@@ -11,12 +11,12 @@ use Rattle.std.proofs.shelf.Bits.{mul-le}
 use Rattle.std.proofs.shelf.Tests.{cases-eq, cases-lt}
 use Rattle.seats.specs.declared.seat.Seat.{Seat}
 use Rattle.seats.specs.Shapes.{Size, Sound}
-use Rattle.seats.specs.Seats.{at, Filled, Lies}
+use Rattle.seats.specs.Seats.{Filled, Lies}
 use Rattle.moves.specs.Queue.{unseen, root, Seen, Visit, Begun}
 use Rattle.moves.specs.Tree.{other, Near, Reached}
 use Rattle.moves.specs.Search.{Full, Expanding, Stopped, Searching, Stuck, Found}
-use Rattle.moves.proofs.Visits.{root-seen, seen-visit, grown-visit, grown-none, grown-more, grown-seen, roots-grown}
-use Rattle.moves.proofs.Trees.{reached-begun, near-kept, Visited, visited}
+use Rattle.moves.proofs.Visits.{root-seen, seen-visit, grown-visit, grown-more, grown-seen, roots-grown}
+use Rattle.moves.proofs.Trees.{reached-begun, near-kept, visited}
 
 -- the rows in use of a bucket lie within the seats
 pub bucket-inside : {z : Size} → Sound z → (b : ℕ) → b < z .buckets → b * z .most + z .rows ≤ z .buckets * z .most
@@ -33,9 +33,6 @@ pub lies-inside : {z : Size} → Sound z → (b i : ℕ) → b < z .buckets → 
 lies-inside sound b i low (row, in-rows, lies) = omega (arith, bucket-inside sound b low)
 
 module _ {X : Type 0} {e : X} {seats : List (Seat X)} {z : Size} (sound : Sound z) where
-  pub expanding-none : {bucket : ℕ} {links queue : List ℕ} {head tail : ℕ} → Reached e seats z links queue head tail → Expanding e seats z bucket 0 links queue head tail links queue tail
-  expanding-none r = record { reached = r; grown = grown-none; full = below-none _; near = below-none _ }
-
   module _ {links queue : List ℕ} {head tail : ℕ} (r : Reached e seats z links queue head tail) (on : head < tail) (n : ℕ) (in-rows : n < z .rows)
       {links′ queue′ : List ℕ} {tail′ : ℕ} (x : Expanding e seats z (getD queue head 0) n links queue head tail links′ queue′ tail′)
       (filled : Filled e seats (getD queue head 0 * z .most + n)) where

@@ -5,10 +5,10 @@ use Prim.Native.Nat.{ℕ, _+_, _*_, _/_, _%_, _≤_, _<_}
 use lib.ListN.{getD}
 use Rattle.seats.specs.declared.seat.Seat.{Seat}
 use Rattle.seats.specs.Shapes.{Size}
-use Rattle.seats.specs.Seats.{at, Filled, Free, Lies}
+use Rattle.seats.specs.Seats.{at, Filled, Lies}
 use Rattle.moves.specs.declared.search.Expansion.{Expansion}
 use Rattle.moves.specs.declared.search.Expansion.the-variants.{Free as FreeAt, Full as FullTo}
-use Rattle.moves.specs.Queue.{root, Seen, Order, Roots, Grown}
+use Rattle.moves.specs.Queue.{Seen, Roots, Grown}
 use Rattle.moves.specs.Tree.{other, Near, Tree, Reached}
 
 -- no seat of the first n rows of the bucket is empty

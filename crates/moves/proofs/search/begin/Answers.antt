@@ -1,7 +1,6 @@
-use mathlib.Core.Path.{_≡_, ap, subst}
+use mathlib.Core.Path.{ap, subst}
 use native.Mathlib.Omega.{arith}
-use Prim.Native.Nat.{_<_}
-use mathlib.Core.Bool.{true, false}
+use mathlib.Core.Bool.{true}
 use Rattle.seats.specs.declared.place.Place.{Place}
 use Rattle.seats.proofs.Sitting.{shape-sound, bucket-below}
 use Rattle.moves.specs.Queue.{root, Visit}
