@@ -20,7 +20,7 @@ use Rattle.moves.specs.Queue.{root, Roots}
 use Rattle.moves.specs.Walk.{entered, Opened}
 use Rattle.moves.specs.Opening.{First, Crowded, Ready}
 use Rattle.moves.specs.Placed.{Accepted, bar, Spared}
-use Rattle.moves.proofs.Searches.{lies-inside}
+use Rattle.moves.proofs.Traversals.{lies-inside}
 use Rattle.moves.proofs.Moved.{shows-new}
 use Rattle.moves.proofs.Walks.{bucket-of, beyond-set, opened-free}
 

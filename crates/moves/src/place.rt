@@ -7,7 +7,7 @@ ghost use Rattle.std.specs.Options.{Cases};
 ghost use Rattle.seats.specs.Shapes.{size};
 ghost use Rattle.moves.specs.Opening.{Crowded, First, Ready, NotReady};
 ghost use Rattle.moves.specs.Placed.{Placed, Spared};
-use crate::search::search;
+use crate::traversal::nearest_free;
 use crate::walk::enter;
 use crate::walk::walk_back;
 use seats::find::free_seat;
@@ -46,7 +46,7 @@ fn open_seat<T: Tally + Copy>(
         return Some(i);
     }
     let (links, queue) = words.split_at_mut(shape.buckets as usize);
-    match search(seats, shape, fingerprint, links, queue) {
+    match nearest_free(seats, shape, fingerprint, links, queue) {
         None => None,
         Some(free) => Some(walk_back(seats, shape, links, free)),
     }

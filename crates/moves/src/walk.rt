@@ -1,12 +1,12 @@
-// The moves along a chain that the search found, and the entry of a new fingerprint.
+// The moves along a chain that the traversal found, and the entry of a new fingerprint.
 ghost use mathlib.Core.Path.{_≡_};
 ghost use Prim.Native.Nat.{ℕ, _*_, _<_};
 ghost use lib.ListN.{length, getD, set};
 ghost use Rattle.seats.specs.Shapes.{size};
 ghost use Rattle.moves.specs.Queue.{root};
-ghost use Rattle.moves.specs.Search.{Chain};
+ghost use Rattle.moves.specs.Traversal.{Chain};
 ghost use Rattle.moves.specs.Walk.{moved, entered, Opened};
-use crate::search::ROOT;
+use crate::traversal::ROOT;
 use seats::seat::Seat;
 use seats::shape::Shape;
 use tallies::tally::Tally;

@@ -14,13 +14,13 @@ returns-in-None g c = record {
   seat = record {
     same = refl;
     unseatable = λ below entries shows none.
-        unseatable (g .T·Tally .kind .empty) (shape-sound (c .args .shape)) (c .args .seats .now) entries shows (c .args .fingerprint) (c .search .last .links) below none (c .in-None .ensures tt);
+        unseatable (g .T·Tally .kind .empty) (shape-sound (c .args .shape)) (c .args .seats .now) entries shows (c .args .fingerprint) (c .nearest-free .last .links) below none (c .in-None .ensures tt);
   };
   spared = inr (c .in-rest .ensures tt);
 }
 
-pub returns-in-Some-search : need.returns-in-Some-search
-returns-in-Some-search g c =
+pub returns-in-Some-nearest-free : need.returns-in-Some-nearest-free
+returns-in-Some-nearest-free g c =
     let crowded = c .in-rest .ensures tt in
     let (bucket, at-root, opened) = c .walk-back .ensures in
-    record { seat = ready-root (size (c .args .shape)) (c .args .fingerprint) (c .search .last .links) (c .in-Some-search .ensures tt .roots) at-root opened crowded; spared = inr crowded }
+    record { seat = ready-root (size (c .args .shape)) (c .args .fingerprint) (c .nearest-free .last .links) (c .in-Some-nearest-free .ensures tt .roots) at-root opened crowded; spared = inr crowded }

@@ -10,11 +10,11 @@ use Rattle.seats.specs.Shapes.{Size, Sound}
 use Rattle.seats.specs.Seats.{at, vacant, Filled}
 use Rattle.seats.proofs.Sitting.{shape-sound}
 use Rattle.moves.specs.Tree.{Reached}
-use Rattle.moves.specs.Search.{Expanding}
+use Rattle.moves.specs.Traversal.{Expanding}
 use Rattle.moves.proofs.Visits.{room}
-use Rattle.moves.proofs.Searches.{bucket-inside, few-seats, expanding-more, expanding-past, expanding-all}
-use Rattle.moves.proofs.search.expand.Needs as need
-use Rattle.moves.proofs.search.expand.Needs.{then-seat-shape, else-seat-shape}
+use Rattle.moves.proofs.Traversals.{bucket-inside, few-seats, expanding-more, expanding-past, expanding-all}
+use Rattle.moves.proofs.traversal.expand.Needs as need
+use Rattle.moves.proofs.traversal.expand.Needs.{then-seat-shape, else-seat-shape}
 
 -- the seat at this row of the bucket at the queue's head is one of the seats
 inside : {X : Type 0} {e : X} {seats : List (Seat X)} {z : Size} {links queue : List ℕ} {head tail : ℕ} → Sound z → Reached e seats z links queue head tail → head < tail → (row : ℕ) → row < z .rows →

@@ -5,7 +5,7 @@ use Rattle.seats.specs.declared.place.Place.{Place}
 use Rattle.seats.proofs.Sitting.{shape-sound, bucket-below}
 use Rattle.moves.specs.Queue.{root, Visit}
 use Rattle.moves.proofs.Visits.{begun}
-use Rattle.moves.proofs.search.begin.Needs as need
+use Rattle.moves.proofs.traversal.begin.Needs as need
 
 pub visit-first-requires : need.visit-first-requires
 visit-first-requires c κs =
