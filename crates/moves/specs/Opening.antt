@@ -40,7 +40,7 @@ pub record Ready {X : Type 0} (e : X) (before after : List (Seat X)) (z : Size) 
   pub opened : Opened e before after z (place-of (z .buckets) f flag .bucket) hole
   pub direct : Crowded e before z f ⊎ ((after ≡ before) × First e before z f hole)
 
--- there was none, and the seats are as they were
+-- no seat can be opened, and the seats are as they were
 pub record NotReady {X : Type 0} (e : X) (before after : List (Seat X)) (z : Size) (f : ℕ) : Type 0 where
   pub same : after ≡ before
   pub unseatable : Unseatable e before z f

@@ -35,7 +35,7 @@ abbrev pub Expanded : {X : Type 0} → X → List (Seat X) → Size → List ℕ
 Expanded e seats z links queue head tail links′ queue′ (FreeAt i) = Stopped e seats z (getD queue head 0) i links queue head tail links′ queue′
 Expanded e seats z links queue head tail links′ queue′ (FullTo end) = Expanding e seats z (getD queue head 0) (z .rows) links queue head tail links′ queue′ end
 
--- the buckets before the queue's head are full
+-- under way: the buckets before the queue's head are full
 pub record Traversing {X : Type 0} (e : X) (seats : List (Seat X)) (z : Size) (f : ℕ) (links queue : List ℕ) (head tail : ℕ) : Type 0 where
   pub reached : Reached e seats z links queue head tail
   pub roots : Roots z f links

@@ -52,8 +52,8 @@ fn open_seat<T: Tally + Copy>(
     }
 }
 
-// Places a new entry of the fingerprint, which the seats do not hold. Entries move to their other bucket where they must.
-// The seats may be any memory.
+// Places a new entry of the fingerprint, which the seats do not hold: in a free seat of its buckets, or where they have none
+// by moving others, each to its other bucket. Refused if no seating has room for it. The seats may be any memory.
 pub fn place<T: Tally + Copy>(
     seats: &mut [Seat<T>],
     shape: Shape,

@@ -1,5 +1,5 @@
-// The breadth-first traversal of the buckets, for a free seat. It begins with the two buckets of a fingerprint, and goes on from each full
-// bucket to the other buckets of the entries there.
+// The breadth-first traversal of the buckets, for a free seat. It begins with the two buckets of a fingerprint, and goes
+// on from each full bucket to the other buckets of the entries there.
 ghost use mathlib.Core.Path.{_≡_};
 ghost use Prim.Native.Nat.{ℕ, _*_, _<_, _≤_};
 ghost use lib.ListN.{length, getD};
@@ -61,8 +61,8 @@ fn begin(shape: Shape, fingerprint: u32, links: &mut [u32], queue: &mut [u32]) -
     visit(links, queue, first, remainder, ROOT)
 }
 
-// Goes through the rows in use of the bucket at the queue's head, once: the first empty seat ends the traversal, and the other
-// bucket of each entry is visited.
+// Goes through the rows in use of the bucket at the queue's head, once: the first empty seat ends the traversal, and the
+// other bucket of each entry is visited. Memory that shows no entries may carry what is no bucket: that is passed over.
 fn expand<T: Tally + Copy>(
     seats: &[Seat<T>],
     shape: Shape,
