@@ -1,6 +1,6 @@
 pub mod Visits
 pub mod Trees
-pub mod Searches
+pub mod Traversals
 pub mod Moved
 pub mod Walks
 pub mod Refuting

@@ -1,9 +1,9 @@
 -- What seats show with an entry moved to its other bucket. Assumes nothing.
 use mathlib.Core.Path.{_≡_, refl, sym, ap, subst, _∙_}
-use mathlib.Core.Bool.{Bool, true, false, cond, not}
+use mathlib.Core.Bool.{Bool, true, false, not}
 use mathlib.Core.List.{List}
 use mathlib.Core.Logic.{⊎-elim}
-use Prim.Native.Nat.{ℕ, _+_, _*_, _/_, _%_, _<_, _≤_}
+use Prim.Native.Nat.{ℕ, _+_, _*_, _/_, _%_, _<_}
 use native.Mathlib.Omega.{arith}
 use lib.Dec.{eqb}
 use lib.ListN.{length, set}
@@ -14,7 +14,7 @@ use Rattle.std.specs.declared.option.Option.the-variants.{Some, None}
 use Rattle.seats.specs.declared.seat.Seat.{Seat}
 use Rattle.seats.specs.Shapes.{Size, Sound}
 use Rattle.seats.specs.Places.{place-of}
-use Rattle.seats.specs.Seats.{at, seat, vacant, Filled, Lies, Sits, Shows, changed}
+use Rattle.seats.specs.Seats.{at, vacant, Filled, Lies, Sits, Shows, changed}
 use Rattle.seats.proofs.Sitting.{filled-inside}
 use Rattle.seats.proofs.Shown.{same-bucket, sits-one, shows-like, shows-filled, shows-emptied}
 use Rattle.moves.specs.Walk.{moved}
@@ -32,7 +32,7 @@ one-bucket : (m f : ℕ) (flag : Bool) → f / m ≡ f % m → place-of m f flag
 one-bucket m f true even = even
 one-bucket m f false even = sym even
 
-pub none-is-not-some : {A : Type 0} (o : Option A) (x : A) → o ≡ None → o ≡ Some x → ⊥
+none-is-not-some : {A : Type 0} (o : Option A) (x : A) → o ≡ None → o ≡ Some x → ⊥
 none-is-not-some o x p q = let z : _≡_ {A = ℕ} 0 1 = cc in omega arith
 
 module _ {X : Type 0} (e : X) {z : Size} (sound : Sound z) (xs : List (Seat X)) (entries : ℕ → Option X) (shows : Shows e xs z entries) where

@@ -1,6 +1,6 @@
--- A search that is stuck refutes every seating. Assumes nothing.
-use mathlib.Core.Path.{_≡_, refl, sym, ap, subst, _∙_}
-use mathlib.Core.Bool.{Bool, true, false, cond, not, _&&_}
+-- A traversal that is stuck refutes every seating. Assumes nothing.
+use mathlib.Core.Path.{_≡_, sym, ap, subst, _∙_}
+use mathlib.Core.Bool.{Bool, true, false, not, _&&_}
 use mathlib.Core.List.{List}
 use Prim.Native.Nat.{ℕ, _+_, _-_, _*_, _/_, _%_, _≤_, _<_}
 use native.Mathlib.Omega.{arith}
@@ -24,7 +24,7 @@ use Rattle.seats.proofs.Shown.{same-bucket}
 use Rattle.seats.proofs.Seated.{seat-of, sits-there}
 use Rattle.moves.specs.Queue.{unseen, Seen}
 use Rattle.moves.specs.Tree.{other}
-use Rattle.moves.specs.Search.{Full, Stuck}
+use Rattle.moves.specs.Traversal.{Full, Stuck}
 
 -- the buckets that were seen, as a test
 abbrev seen-by : List ℕ → ℕ → Bool

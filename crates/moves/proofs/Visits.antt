@@ -26,7 +26,7 @@ pub put-other : {X : Type 0} (f : ℕ → X) (k : ℕ) (v : X) (q : ℕ) → (q 
 put-other f k v q ne = cond-false (eqb q k) v (f q) (ne-eqb q k ne)
 
 -- a bucket whose link is kept is seen as before
-pub seen-kept : (links links′ : List ℕ) (j : ℕ) → getD links′ j 0 ≡ getD links j 0 → Seen links j → Seen links′ j
+seen-kept : (links links′ : List ℕ) (j : ℕ) → getD links′ j 0 ≡ getD links j 0 → Seen links j → Seen links′ j
 seen-kept links links′ j same seen none = seen (sym same ∙ none)
 
 pub root-seen : (links : List ℕ) (j : ℕ) → getD links j 0 ≡ root → Seen links j
@@ -212,9 +212,6 @@ begun {z} sound f below {links} {queue} all long wide {links′} {queue′} v lo
         remainder = just r low (seen-visit o′ long′ wide′ r root low real w);
       };
     }
-
-pub grown-none : {z : Size} {links queue : List ℕ} {tail : ℕ} → Grown z links queue tail links queue tail
-grown-none = record { longer = omega arith; same = λ k h. refl; keeps = λ j s. refl; rooted = λ j h is. is }
 
 pub grown-more : {z : Size} {links queue links′ queue′ links″ queue″ : List ℕ} {tail tail′ tail″ : ℕ} →
     Grown z links queue tail links′ queue′ tail′ → Grown z links′ queue′ tail′ links″ queue″ tail″ → Grown z links queue tail links″ queue″ tail″

@@ -3,7 +3,7 @@ use mathlib.Core.Path.{_≡_, refl, sym, ap, subst, _∙_}
 use mathlib.Core.Bool.{not}
 use mathlib.Core.List.{List}
 use mathlib.Core.Logic.{⊎-elim}
-use Prim.Native.Nat.{ℕ, zero, suc, _+_, _*_, _/_, _%_, _≤_, _<_}
+use Prim.Native.Nat.{ℕ, zero, suc, _+_, _*_, _/_, _%_, _<_}
 use native.Mathlib.Omega.{arith}
 use lib.Dec.{eqb}
 use lib.ListN.{length, getD, set}
@@ -16,9 +16,9 @@ use Rattle.seats.specs.Seats.{at, seat, vacant, Lies, Shows}
 use Rattle.seats.proofs.Shown.{same-bucket}
 use Rattle.moves.specs.Queue.{root, Seen}
 use Rattle.moves.specs.Tree.{Parent, Tree}
-use Rattle.moves.specs.Search.{Chain}
-use Rattle.moves.specs.Walk.{moved, depth, Open, Beyond, Walking, Opened}
-use Rattle.moves.proofs.Searches.{bucket-inside, few-seats, lies-inside}
+use Rattle.moves.specs.Traversal.{Chain}
+use Rattle.moves.specs.Walk.{moved, depth, Beyond, Walking, Opened}
+use Rattle.moves.proofs.Traversals.{bucket-inside, few-seats, lies-inside}
 use Rattle.moves.proofs.Moved.{shows-vacant, shows-moved}
 
 -- the bucket of a seat

@@ -1,5 +1,6 @@
 pub mod Queue
 pub mod Tree
-pub mod Search
+pub mod Traversal
 pub mod Walk
+pub mod Opening
 pub mod Placed

@@ -6,20 +6,19 @@ use mathlib.Core.List.{List}
 use mathlib.Core.Logic.{_⊎_}
 use Prim.Native.Nat.{ℕ, _*_, _<_}
 use lib.Dec.{eqb, ltb}
-use lib.ListN.{length}
+use lib.ListN.{length, set}
 use Rattle.std.specs.declared.option.Option.{Option}
 use Rattle.std.specs.declared.option.Option.the-variants.{Some, None}
 use Rattle.std.specs.declared.result.Result.{Result}
 use Rattle.std.specs.declared.result.Result.the-variants.{Ok, Err}
 use Rattle.tallies.specs.Kinds.{Kind}
-use Rattle.seatings.specs.Seatings.{Seating, also}
 use Rattle.seats.specs.declared.refusal.Refusal.{Refusal}
 use Rattle.seats.specs.declared.refusal.Refusal.the-variants.{Seats, Words, NoAmount, NoSeating}
 use Rattle.seats.specs.declared.seat.Seat.{Seat}
 use Rattle.seats.specs.Shapes.{Size}
-use Rattle.seats.specs.Places.{place-of}
-use Rattle.seats.specs.Seats.{Free, Lies, Shows, held, changed}
-use Rattle.moves.specs.Walk.{Beyond, Opened}
+use Rattle.seats.specs.Seats.{Shows, changed}
+use Rattle.moves.specs.Walk.{entered, Beyond}
+use Rattle.moves.specs.Opening.{First, Crowded, Unseatable}
 
 -- what turns the call away at once, by how many seats and words were lent, and whether the tally is empty
 abbrev pub barred : Size → ℕ → ℕ → Bool → Option Refusal
@@ -28,43 +27,28 @@ barred z seats words empty =
     (cond (ltb words (2 * z .buckets)) (Some Words)
     (cond empty (Some NoAmount) None))
 
--- the seat i lies in the rows in use of one of the two buckets of f
-abbrev pub Own : Size → ℕ → ℕ → Type 0
-Own z f i = (flag : Bool) × Lies z (place-of (z .buckets) f flag .bucket) i
+-- the same, of a call
+abbrev pub bar : {X : Type 0} → Kind X → List (Seat X) → Size → X → ℕ → Option Refusal
+bar k before z tally words = barred z (length before) words (k .is-empty tally)
 
--- what the seats show has no seating together with f
-abbrev pub Unseatable : {X : Type 0} → X → List (Seat X) → Size → ℕ → Type 0
-Unseatable {X} e seats z f = f < z .range → (entries : ℕ → Option X) → Shows e seats z entries → entries f ≡ None →
-    Seating (z .buckets) (z .rows) (z .range) (also f (held entries)) → ⊥
-
--- a seat of one of the buckets of f is open for its entry
-abbrev pub Ready : {X : Type 0} → X → List (Seat X) → List (Seat X) → Size → ℕ → ℕ → Type 0
-Ready e before after z f hole = (flag : Bool) × Opened e before after z (place-of (z .buckets) f flag .bucket) hole
-
--- there was none, and the seats are as they were
-pub record NotReady {X : Type 0} (e : X) (before after : List (Seat X)) (z : Size) (f : ℕ) : Type 0 where
-  pub same : after ≡ before
-  pub unseatable : Unseatable e before z f
-
--- the entry is in: whatever the seats showed without f, they show with it, and the rows not in use are as they were
+-- the entry is in: whatever the seats showed without f, they show with it; the rows not in use are as they were; and where a
+-- bucket of f had a free seat, the entry took the first and nothing else changed
 pub record Accepted {X : Type 0} (e : X) (before after : List (Seat X)) (z : Size) (f : ℕ) (tally : X) : Type 0 where
   pub below : f < z .range
   pub shows : (entries : ℕ → Option X) → Shows e before z entries → entries f ≡ None → Shows e after z (changed entries f (Some tally))
   pub beyond : Beyond e before after z
+  pub direct : Crowded e before z f ⊎ ((hole : ℕ) × First e before z f hole × (after ≡ set before hole (entered z f hole tally)))
 
 -- the entry is not in, for this reason, and the seats are as they were
 pub record Refused {X : Type 0} (e : X) (before after : List (Seat X)) (z : Size) (f : ℕ) (bar : Option Refusal) (why : Refusal) : Type 0 where
   pub same : after ≡ before
   pub reason : (bar ≡ Some why) ⊎ ((bar ≡ None) × (why ≡ NoSeating) × Unseatable e before z f)
 
--- what the call is barred by
-abbrev pub bar : {X : Type 0} → Kind X → List (Seat X) → Size → X → ℕ → Option Refusal
-bar k before z tally words = barred z (length before) words (k .is-empty tally)
-
 abbrev pub Placed : {X U : Type 0} → Kind X → List (Seat X) → List (Seat X) → Size → ℕ → X → ℕ → Result U Refusal → Type 0
 Placed k before after z f tally words (Ok _) = (bar k before z tally words ≡ None) × Accepted (k .empty) before after z f tally
 Placed k before after z f tally words (Err why) = Refused (k .empty) before after z f (bar k before z tally words) why
 
--- the work words are as they were where a bucket of f has a free seat
-abbrev pub Spared : {X : Type 0} → X → List (Seat X) → Size → ℕ → List ℕ → List ℕ → Type 0
-Spared e before z f words words′ = (i : ℕ) → Own z f i → Free e before i → words′ ≡ words
+-- the work words are as they were, unless the call was let in, f is a fingerprint, and no bucket of f had a free seat
+abbrev pub Spared : {X : Type 0} → Kind X → List (Seat X) → Size → ℕ → X → List ℕ → List ℕ → Type 0
+Spared k before z f tally words words′ =
+    (words′ ≡ words) ⊎ ((bar k before z tally (length words) ≡ None) × (f < z .range) × Crowded (k .empty) before z f)

@@ -1,4 +1,4 @@
--- The queue of a breadth-first search over the buckets, and the link of each bucket, which says how it was reached. Assumes nothing.
+-- The queue of a breadth-first traversal over the buckets, and the link of each bucket, which says how it was reached. Assumes nothing.
 use mathlib.Core.Path.{_≡_}
 use mathlib.Core.List.{List}
 use mathlib.Core.Logic.{_⊎_}
@@ -10,7 +10,7 @@ use Rattle.seats.specs.Shapes.{Size}
 abbrev pub unseen : ℕ
 unseen = 4294967295
 
--- the link of a bucket that the search began with; any other link is the seat from which the bucket was reached
+-- the link of a bucket that the traversal began with; any other link is the seat from which the bucket was reached
 abbrev pub root : ℕ
 root = 4294967294
 
@@ -48,13 +48,13 @@ pub record Roots (z : Size) (f : ℕ) (links : List ℕ) : Type 0 where
   pub quotient : getD links (f / z .buckets) 0 ≡ root
   pub remainder : getD links (f % z .buckets) 0 ≡ root
 
--- the search begins: just the roots were seen
+-- the traversal begins: just the roots were seen
 pub record Begun (z : Size) (f : ℕ) (links queue : List ℕ) (tail : ℕ) : Type 0 where
   pub order : Order z links queue tail
   pub roots : Roots z f links
   pub just : (j : ℕ) → j < z .buckets → Seen links j → getD links j 0 ≡ root
 
--- the search goes on: what was seen keeps its link, the queue is only added to, and no root is new
+-- the traversal goes on: what was seen keeps its link, the queue is only added to, and no root is new
 pub record Grown (z : Size) (links queue : List ℕ) (tail : ℕ) (links′ queue′ : List ℕ) (tail′ : ℕ) : Type 0 where
   pub longer : tail ≤ tail′
   pub same : (k : ℕ) → k < tail → getD queue′ k 0 ≡ getD queue k 0

@@ -1,4 +1,4 @@
 // Moves: a seat for a new entry, where its buckets are full by moving entries along a chain, each to its other bucket.
 pub mod place;
-mod search;
+mod traversal;
 mod walk;

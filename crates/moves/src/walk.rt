@@ -1,12 +1,12 @@
-// The moves along a chain that the search found, and the entry of a new fingerprint.
+// The moves along a chain that the traversal found, and the entry of a new fingerprint.
 ghost use mathlib.Core.Path.{_≡_};
 ghost use Prim.Native.Nat.{ℕ, _*_, _<_};
 ghost use lib.ListN.{length, getD, set};
 ghost use Rattle.seats.specs.Shapes.{size};
 ghost use Rattle.moves.specs.Queue.{root};
-ghost use Rattle.moves.specs.Search.{Chain};
+ghost use Rattle.moves.specs.Traversal.{Chain};
 ghost use Rattle.moves.specs.Walk.{moved, entered, Opened};
-use crate::search::ROOT;
+use crate::traversal::ROOT;
 use seats::seat::Seat;
 use seats::shape::Shape;
 use tallies::tally::Tally;
@@ -60,7 +60,8 @@ pub fn enter<T: Tally + Copy>(
     requires { ⌜ hole < length (now seats) ⌝ }
     ensures { λ _. ⌜ now (seats .exit) ≡ set (now (seats .entry)) hole (entered (size shape) fingerprint hole tally) ⌝ }
 {
-    let flag = hole / shape.most as usize == (fingerprint / shape.buckets) as usize;
+    let quotient = shape.place(fingerprint, true).bucket;
+    let flag = hole / shape.most as usize == quotient as usize;
     let place = shape.place(fingerprint, flag);
     seats[hole] = Seat {
         carry: place.carry,

@@ -1,14 +1,14 @@
--- The breadth-first search for the nearest free seat: what it keeps, and how it ends. `e` is the empty tally. Assumes nothing.
+-- The breadth-first traversal for the nearest free seat: what it keeps, and how it ends. `e` is the empty tally. Assumes nothing.
 use mathlib.Core.Path.{_≡_}
 use mathlib.Core.List.{List}
 use Prim.Native.Nat.{ℕ, _+_, _*_, _/_, _%_, _≤_, _<_}
 use lib.ListN.{getD}
 use Rattle.seats.specs.declared.seat.Seat.{Seat}
 use Rattle.seats.specs.Shapes.{Size}
-use Rattle.seats.specs.Seats.{at, Filled, Free, Lies}
-use Rattle.moves.specs.declared.search.Expansion.{Expansion}
-use Rattle.moves.specs.declared.search.Expansion.the-variants.{Free as FreeAt, Full as FullTo}
-use Rattle.moves.specs.Queue.{root, Seen, Order, Roots, Grown}
+use Rattle.seats.specs.Seats.{at, Filled, Lies}
+use Rattle.moves.specs.declared.traversal.Expansion.{Expansion}
+use Rattle.moves.specs.declared.traversal.Expansion.the-variants.{Free as FreeAt, Full as FullTo}
+use Rattle.moves.specs.Queue.{Seen, Roots, Grown}
 use Rattle.moves.specs.Tree.{other, Near, Tree, Reached}
 
 -- no seat of the first n rows of the bucket is empty
@@ -22,7 +22,7 @@ pub record Expanding {X : Type 0} (e : X) (seats : List (Seat X)) (z : Size) (bu
   pub full : Full e seats z bucket n
   pub near : (row : ℕ) → row < n → Near e seats z links′ (reached .tree .rank) bucket row
 
--- the seat i of the bucket is free, and the search stops there
+-- the seat i of the bucket is free, and the traversal stops there
 pub record Stopped {X : Type 0} (e : X) (seats : List (Seat X)) (z : Size) (bucket i : ℕ) (links queue : List ℕ) (head tail : ℕ) (links′ queue′ : List ℕ) : Type 0 where
   pub end : ℕ
   pub reached : Reached e seats z links′ queue′ head end
@@ -35,8 +35,8 @@ abbrev pub Expanded : {X : Type 0} → X → List (Seat X) → Size → List ℕ
 Expanded e seats z links queue head tail links′ queue′ (FreeAt i) = Stopped e seats z (getD queue head 0) i links queue head tail links′ queue′
 Expanded e seats z links queue head tail links′ queue′ (FullTo end) = Expanding e seats z (getD queue head 0) (z .rows) links queue head tail links′ queue′ end
 
--- the buckets before the queue's head are full
-pub record Searching {X : Type 0} (e : X) (seats : List (Seat X)) (z : Size) (f : ℕ) (links queue : List ℕ) (head tail : ℕ) : Type 0 where
+-- under way: the buckets before the queue's head are full
+pub record Traversing {X : Type 0} (e : X) (seats : List (Seat X)) (z : Size) (f : ℕ) (links queue : List ℕ) (head tail : ℕ) : Type 0 where
   pub reached : Reached e seats z links queue head tail
   pub roots : Roots z f links
   pub passed : head ≤ tail

@@ -1,6 +1,6 @@
--- The steps of the search. Assumes nothing.
-use borrow.Author.Count.{below-none, below-more}
-use mathlib.Core.Path.{_≡_, refl, sym, ap, subst, _∙_}
+-- The steps of the traversal. Assumes nothing.
+use borrow.Author.Count.{below-more}
+use mathlib.Core.Path.{_≡_, sym, ap, subst, _∙_}
 use mathlib.Core.List.{List}
 use mathlib.Core.Logic.{⊎-elim}
 use Prim.Native.Nat.{ℕ, _+_, _*_, _≤_, _<_}
@@ -11,12 +11,12 @@ use Rattle.std.proofs.shelf.Bits.{mul-le}
 use Rattle.std.proofs.shelf.Tests.{cases-eq, cases-lt}
 use Rattle.seats.specs.declared.seat.Seat.{Seat}
 use Rattle.seats.specs.Shapes.{Size, Sound}
-use Rattle.seats.specs.Seats.{at, Filled, Lies}
+use Rattle.seats.specs.Seats.{Filled, Lies}
 use Rattle.moves.specs.Queue.{unseen, root, Seen, Visit, Begun}
 use Rattle.moves.specs.Tree.{other, Near, Reached}
-use Rattle.moves.specs.Search.{Full, Expanding, Stopped, Searching, Stuck, Found}
-use Rattle.moves.proofs.Visits.{root-seen, seen-visit, grown-visit, grown-none, grown-more, grown-seen, roots-grown}
-use Rattle.moves.proofs.Trees.{reached-begun, near-kept, Visited, visited}
+use Rattle.moves.specs.Traversal.{Full, Expanding, Stopped, Traversing, Stuck, Found}
+use Rattle.moves.proofs.Visits.{root-seen, seen-visit, grown-visit, grown-more, grown-seen, roots-grown}
+use Rattle.moves.proofs.Trees.{reached-begun, near-kept, visited}
 
 -- the rows in use of a bucket lie within the seats
 pub bucket-inside : {z : Size} → Sound z → (b : ℕ) → b < z .buckets → b * z .most + z .rows ≤ z .buckets * z .most
@@ -33,9 +33,6 @@ pub lies-inside : {z : Size} → Sound z → (b i : ℕ) → b < z .buckets → 
 lies-inside sound b i low (row, in-rows, lies) = omega (arith, bucket-inside sound b low)
 
 module _ {X : Type 0} {e : X} {seats : List (Seat X)} {z : Size} (sound : Sound z) where
-  pub expanding-none : {bucket : ℕ} {links queue : List ℕ} {head tail : ℕ} → Reached e seats z links queue head tail → Expanding e seats z bucket 0 links queue head tail links queue tail
-  expanding-none r = record { reached = r; grown = grown-none; full = below-none _; near = below-none _ }
-
   module _ {links queue : List ℕ} {head tail : ℕ} (r : Reached e seats z links queue head tail) (on : head < tail) (n : ℕ) (in-rows : n < z .rows)
       {links′ queue′ : List ℕ} {tail′ : ℕ} (x : Expanding e seats z (getD queue head 0) n links queue head tail links′ queue′ tail′)
       (filled : Filled e seats (getD queue head 0 * z .most + n)) where
@@ -86,19 +83,19 @@ module _ {X : Type 0} {e : X} {seats : List (Seat X)} {z : Size} (sound : Sound 
     near = λ row h. x .near row (omega arith);
   }
 
-  pub searching-none : {f : ℕ} {links queue : List ℕ} {tail : ℕ} → Begun z f links queue tail → Searching e seats z f links queue 0 tail
-  searching-none b = record {
+  pub traversing-none : {f : ℕ} {links queue : List ℕ} {tail : ℕ} → Begun z f links queue tail → Traversing e seats z f links queue 0 tail
+  traversing-none b = record {
     reached = reached-begun e seats z b;
     roots = b .roots;
     passed = omega arith;
     full = λ k h. absurd (omega arith);
   }
 
-  module _ {f : ℕ} {links queue : List ℕ} {head tail : ℕ} (s : Searching e seats z f links queue head tail) where
+  module _ {f : ℕ} {links queue : List ℕ} {head tail : ℕ} (s : Traversing e seats z f links queue head tail) where
     -- the bucket at the head is full
-    pub searching-more : {links′ queue′ : List ℕ} {tail′ : ℕ} → head < tail → Expanding e seats z (getD queue head 0) (z .rows) links queue head tail links′ queue′ tail′ →
-        Searching e seats z f links′ queue′ (head + 1) tail′
-    searching-more {links′} {queue′} {tail′} on x =
+    pub traversing-more : {links′ queue′ : List ℕ} {tail′ : ℕ} → head < tail → Expanding e seats z (getD queue head 0) (z .rows) links queue head tail links′ queue′ tail′ →
+        Traversing e seats z f links′ queue′ (head + 1) tail′
+    traversing-more {links′} {queue′} {tail′} on x =
         let r = x .reached in
         let old : (k : ℕ) → k < head + 1 → getD queue′ k 0 ≡ getD queue k 0 = λ k h. x .grown .same k (omega arith) in
         let longer = x .grown .longer in
@@ -124,8 +121,8 @@ module _ {X : Type 0} {e : X} {seats : List (Seat X)} {z : Size} (sound : Sound 
         }
 
     -- the queue is at its end
-    pub searching-all : tail ≤ head → Stuck e seats z f links
-    searching-all le = record {
+    pub traversing-all : tail ≤ head → Stuck e seats z f links
+    traversing-all le = record {
       quotient = root-seen links _ (s .roots .quotient);
       remainder = root-seen links _ (s .roots .remainder);
       full = λ j h seen. let k = s .reached .order .found j h seen in subst (λ b. Full e seats z b (z .rows)) (k .2) (s .full (k .0) (omega (arith, k .1)));
@@ -135,8 +132,8 @@ module _ {X : Type 0} {e : X} {seats : List (Seat X)} {z : Size} (sound : Sound 
     }
 
     -- the bucket at the head has a free seat
-    pub searching-found : {links′ queue′ : List ℕ} (i : ℕ) → head < tail → Stopped e seats z (getD queue head 0) i links queue head tail links′ queue′ → Found e seats z f links′ i
-    searching-found {links′} {queue′} i on x =
+    pub traversing-found : {links′ queue′ : List ℕ} (i : ℕ) → head < tail → Stopped e seats z (getD queue head 0) i links queue head tail links′ queue′ → Found e seats z f links′ i
+    traversing-found {links′} {queue′} i on x =
         let r = x .reached in
         let rank = r .tree .rank in
         let longer = x .grown .longer in

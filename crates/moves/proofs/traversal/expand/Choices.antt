@@ -1,7 +1,7 @@
 use lib.ListN.{getD}
 use Rattle.seats.specs.Shapes.{size}
-use Rattle.moves.specs.Search.{Expanding}
-use Rattle.moves.proofs.search.expand.Given as given
+use Rattle.moves.specs.Traversal.{Expanding}
+use Rattle.moves.proofs.traversal.expand.Given as given
 
 abbrev pub Inv-loop-row : given.InvT-loop-row
 Inv-loop-row g l =

@@ -4,7 +4,7 @@ use mathlib.Core.Logic.{_≢_}
 use Prim.Native.Nat.{_<_}
 use lib.ListN.{length}
 use lib.Seq.{getD-set-same, getD-set-other}
-use Rattle.moves.proofs.search.forget.Needs as need
+use Rattle.moves.proofs.traversal.forget.Needs as need
 
 pub loop-link-again : need.loop-link-again
 loop-link-again c =

@@ -1,5 +1,5 @@
-// The breadth-first search for a free seat. It begins with the two buckets of a fingerprint, and goes on from each full
-// bucket to the other buckets of the entries there.
+// The breadth-first traversal of the buckets, for a free seat. It begins with the two buckets of a fingerprint, and goes
+// on from each full bucket to the other buckets of the entries there.
 ghost use mathlib.Core.Path.{_≡_};
 ghost use Prim.Native.Nat.{ℕ, _*_, _<_, _≤_};
 ghost use lib.ListN.{length, getD};
@@ -7,7 +7,7 @@ ghost use Rattle.std.specs.Options.{Cases};
 ghost use Rattle.seats.specs.Shapes.{size};
 ghost use Rattle.moves.specs.Queue.{unseen, Visit, Begun};
 ghost use Rattle.moves.specs.Tree.{Reached};
-ghost use Rattle.moves.specs.Search.{Expanded, Stuck, Found};
+ghost use Rattle.moves.specs.Traversal.{Expanded, Stuck, Found};
 use seats::seat::Seat;
 use seats::shape::Shape;
 use tallies::tally::Tally;
@@ -15,7 +15,7 @@ use tallies::tally::Tally;
 // The link of a bucket that was not reached.
 const UNSEEN: u32 = 4_294_967_295;
 
-// The link of a bucket that the search begins with. Any other link is the seat from which the bucket was reached.
+// The link of a bucket that the traversal begins with. Any other link is the seat from which the bucket was reached.
 pub const ROOT: u32 = 4_294_967_294;
 
 // What became of a bucket: a free seat of it, or none, with the new end of the queue.
@@ -55,18 +55,14 @@ fn begin(shape: Shape, fingerprint: u32, links: &mut [u32], queue: &mut [u32]) -
     ensures { λ r. ⌜ Begun (size shape) fingerprint (now (links .exit)) (now (queue .exit)) r ⌝ }
 {
     forget(links);
-    let first = visit(links, queue, 0, shape.place(fingerprint, true).bucket, ROOT);
-    visit(
-        links,
-        queue,
-        first,
-        shape.place(fingerprint, false).bucket,
-        ROOT,
-    )
+    let quotient = shape.place(fingerprint, true).bucket;
+    let remainder = shape.place(fingerprint, false).bucket;
+    let first = visit(links, queue, 0, quotient, ROOT);
+    visit(links, queue, first, remainder, ROOT)
 }
 
-// Goes through the rows in use of the bucket at the queue's head, once: the first empty seat ends the search, and the other
-// bucket of each entry is visited.
+// Goes through the rows in use of the bucket at the queue's head, once: the first empty seat ends the traversal, and the
+// other bucket of each entry is visited. Memory that shows no entries may carry what is no bucket: that is passed over.
 fn expand<T: Tally + Copy>(
     seats: &[Seat<T>],
     shape: Shape,
@@ -96,7 +92,7 @@ fn expand<T: Tally + Copy>(
 }
 
 // The nearest free seat to which a chain of moves leads from the buckets of the fingerprint, with the chain in the links.
-pub fn search<T: Tally + Copy>(
+pub fn nearest_free<T: Tally + Copy>(
     seats: &[Seat<T>],
     shape: Shape,
     fingerprint: u32,

@@ -1,26 +1,33 @@
 use mathlib.Core.Path.{_≡_, refl, sym, ap, subst, _∙_}
 use native.Mathlib.Omega.{arith}
-use Prim.Native.Nat.{ℕ, _+_, _*_, _<_, _≤_}
+use Prim.Native.Nat.{ℕ, _+_, _*_, _<_}
 use mathlib.Core.List.{List}
-use mathlib.Core.Bool.{true, false}
 use lib.ListN.{length, getD}
 use Rattle.std.proofs.shelf.Lists.{getD-read}
 use Rattle.std.proofs.shelf.Tests.{both-ways}
 use Rattle.seats.specs.declared.seat.Seat.{Seat}
-use Rattle.seats.specs.Shapes.{Size, Sound, size}
+use Rattle.seats.specs.Shapes.{Size, Sound}
 use Rattle.seats.specs.Seats.{at, vacant, Filled}
 use Rattle.seats.proofs.Sitting.{shape-sound}
 use Rattle.moves.specs.Tree.{Reached}
-use Rattle.moves.specs.Search.{Expanding}
+use Rattle.moves.specs.Traversal.{Expanding}
 use Rattle.moves.proofs.Visits.{room}
-use Rattle.moves.proofs.Searches.{bucket-inside, few-seats, expanding-more, expanding-past, expanding-all}
-use Rattle.moves.proofs.search.expand.Needs as need
-use Rattle.moves.proofs.search.expand.Needs.{then-seat-shape, else-seat-shape}
+use Rattle.moves.proofs.Traversals.{bucket-inside, few-seats, expanding-more, expanding-past, expanding-all}
+use Rattle.moves.proofs.traversal.expand.Needs as need
+use Rattle.moves.proofs.traversal.expand.Needs.{then-seat-shape, else-seat-shape}
 
 -- the seat at this row of the bucket at the queue's head is one of the seats
 inside : {X : Type 0} {e : X} {seats : List (Seat X)} {z : Size} {links queue : List ℕ} {head tail : ℕ} → Sound z → Reached e seats z links queue head tail → head < tail → (row : ℕ) → row < z .rows →
     getD queue head 0 * z .most + row < z .buckets * z .most
 inside sound r on row low = omega (arith, bucket-inside sound _ (r .order .low _ on))
+
+-- the same, where the lists and the end of the queue go by other names
+expanding-like : {X : Type 0} {e : X} {seats : List (Seat X)} {z : Size} {bucket n : ℕ} {links queue : List ℕ} {head tail : ℕ} {links′ links″ queue′ queue″ : List ℕ} {end end′ : ℕ} →
+    links″ ≡ links′ → queue″ ≡ queue′ → end′ ≡ end → Expanding e seats z bucket n links queue head tail links′ queue′ end → Expanding e seats z bucket n links queue head tail links″ queue″ end′
+expanding-like {e} {seats} {z} {bucket} {n} {links} {queue} {head} {tail} {links′} {links″} {queue′} {queue″} {end} {end′} l q t x =
+    subst (λ m. Expanding e seats z bucket n links queue head tail links″ queue″ m) (sym t)
+    (subst (λ m. Expanding e seats z bucket n links queue head tail links″ m end) (sym q)
+    (subst (λ m. Expanding e seats z bucket n links queue head tail m queue′ end) (sym l) x))
 
 pub add-i : need.add-i
 add-i g c = let sound = shape-sound (c .args .shape) in omega (arith, few-seats sound, inside sound (c .pre .reached) (c .pre .on) (c .loop-row .row) (c .loop-row-test .taken))
@@ -54,11 +61,7 @@ pub loop-row-again : need.loop-row-again
 loop-row-again g c =
     let e = g .T·Tally .kind .empty in
     let xs = c .args .seats .now in
-    let z = size (c .args .shape) in
-    let links = c .args .links .now in
-    let queue = c .args .queue .now in
-    let head = c .args .head in
-    let i = getD queue head 0 * c .args .shape .most + c .loop-row .row in
+    let i = getD (c .args .queue .now) (c .args .head) 0 * c .args .shape .most + c .loop-row .row in
     let sound = shape-sound (c .args .shape) in
     let low : i < length xs = omega (arith, inside sound (c .pre .reached) (c .pre .on) (c .loop-row .row) (c .loop-row-test .taken)) in
     let read : c .index-seats-i .result ≡ at e xs i = getD-read xs i (c .index-seats-i .result) low (c .index-seats-i .is) (vacant e) in
@@ -69,17 +72,13 @@ loop-row-again g c =
     let carry = ap (λ (s : Seat (g .T .Denot)). s .carry) read in
     elim (c .if-seat-shape .came) [
       | then-seat-shape w ↦
-          subst (λ n. Expanding e xs z (getD queue head 0) (c .loop-row .row + 1) links queue head (c .args .tail) (c .if-seat-shape .links) (c .if-seat-shape .queue) n) (sym (w .end-is))
-          (subst (λ q. Expanding e xs z (getD queue head 0) (c .loop-row .row + 1) links queue head (c .args .tail) (c .if-seat-shape .links) q (w .visit-end .result)) (sym (w .queue-is))
-          (subst (λ l. Expanding e xs z (getD queue head 0) (c .loop-row .row + 1) links queue head (c .args .tail) l (w .visit-end .last .queue) (w .visit-end .result)) (sym (w .links-is))
+          expanding-like (w .links-is) (w .queue-is) (w .end-is)
           (expanding-more sound (c .pre .reached) (c .pre .on) (c .loop-row .row) (c .loop-row-test .taken) (c .loop-row .inv) filled (omega arith) (omega arith)
-          _ carry (w .if-seat-shape .taken) (w .visit-end .ensures))))
+          _ carry (w .if-seat-shape .taken) (w .visit-end .ensures))
       | else-seat-shape w ↦
-          subst (λ n. Expanding e xs z (getD queue head 0) (c .loop-row .row + 1) links queue head (c .args .tail) (c .if-seat-shape .links) (c .if-seat-shape .queue) n) (sym (w .end-is))
-          (subst (λ q. Expanding e xs z (getD queue head 0) (c .loop-row .row + 1) links queue head (c .args .tail) (c .if-seat-shape .links) q (c .loop-row .end)) (sym (w .queue-is))
-          (subst (λ l. Expanding e xs z (getD queue head 0) (c .loop-row .row + 1) links queue head (c .args .tail) l (c .loop-row .queue) (c .loop-row .end)) (sym (w .links-is))
+          expanding-like (w .links-is) (w .queue-is) (w .end-is)
           (expanding-past sound (c .pre .reached) (c .pre .on) (c .loop-row .row) (c .loop-row-test .taken) (c .loop-row .inv) filled
-          (omega (arith, carry, w .if-seat-shape .left)))))
+          (omega (arith, carry, w .if-seat-shape .left)))
     ]
 
 pub returns : need.returns

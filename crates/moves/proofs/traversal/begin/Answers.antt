@@ -1,22 +1,21 @@
-use mathlib.Core.Path.{_≡_, ap, subst}
+use mathlib.Core.Path.{ap, subst}
 use native.Mathlib.Omega.{arith}
-use Prim.Native.Nat.{_<_}
-use mathlib.Core.Bool.{true, false}
+use mathlib.Core.Bool.{true}
 use Rattle.seats.specs.declared.place.Place.{Place}
 use Rattle.seats.proofs.Sitting.{shape-sound, bucket-below}
 use Rattle.moves.specs.Queue.{root, Visit}
 use Rattle.moves.proofs.Visits.{begun}
-use Rattle.moves.proofs.search.begin.Needs as need
+use Rattle.moves.proofs.traversal.begin.Needs as need
 
 pub visit-first-requires : need.visit-first-requires
 visit-first-requires c κs =
-    let is = ap (λ (p : Place). p .bucket) (c .place .ensures .value) in
+    let is = ap (λ (p : Place). p .bucket) (c .place-quotient .ensures .value) in
     (omega (arith, bucket-below (shape-sound (c .args .shape)) (c .args .fingerprint) (c .pre .below) true), λ _. omega arith)
 
 pub returns : need.returns
 returns c =
-    let quotient = ap (λ (p : Place). p .bucket) (c .place .ensures .value) in
-    let remainder = ap (λ (p : Place). p .bucket) (c .place-2 .ensures .value) in
+    let quotient = ap (λ (p : Place). p .bucket) (c .place-quotient .ensures .value) in
+    let remainder = ap (λ (p : Place). p .bucket) (c .place-remainder .ensures .value) in
     let links = c .forget .last .links in
     let queue = c .args .queue .now in
     let links′ = c .visit-first .last .links in
