@@ -25,7 +25,8 @@ use Rattle.seats.specs.Places.{place-of, given-back}
 use Rattle.seats.specs.Seats.{Filled, Shows, Sits, at, vacant, held, changed}
 use Rattle.seats.proofs.Shown.{place-back, sits-kept, sits-one, same-bucket}
 use Rattle.seats.proofs.Seated.{seat-of, sits-there}
-use Rattle.moves.specs.Placed.{Accepted, Refused, Unseatable, bar}
+use Rattle.moves.specs.Opening.{Unseatable}
+use Rattle.moves.specs.Placed.{Accepted, Refused, bar}
 use Rattle.narrowing.specs.Narrowed.{narrower, last-seat, Shifted, Lowered}
 
 some-none : {X : Type 0} (o : Option X) (x : X) → o ≡ Some x → o ≡ None → ⊥

@@ -24,7 +24,8 @@ use Rattle.seats.specs.Shapes.{Size, size}
 use Rattle.seats.specs.Seats.{Shows, at, seat, held, changed}
 use Rattle.seats.proofs.Sitting.{shape-sound}
 use Rattle.seats.proofs.Seated.{shows-seating}
-use Rattle.moves.specs.Placed.{Accepted, Unseatable, bar}
+use Rattle.moves.specs.Opening.{Unseatable}
+use Rattle.moves.specs.Placed.{Accepted, bar}
 use Rattle.book.specs.declared.answer.Answer.{Answer}
 use Rattle.book.specs.declared.answer.Answer.the-variants.{Tallied, Refused}
 use Rattle.book.specs.Books.{Book, Call, Turn, post, enter, fingerprint, too-few, too-long, has-room, check, turn, turned-away, gets, joined, posted, holding}

@@ -54,5 +54,5 @@ returns-in-Break-place g c =
           (omega arith) (le-ltb 64 (length (c .args .key .now)) (c .if-key-gt-LONGEST .left)) (sym (c .if-not-is-amount .ensures tt .value)) (c .fingerprint-fingerprint .ensures .value)
           (reads-none (g .T·Tally .kind) (c .args .self .now) (c .fingerprint-fingerprint .result) (c .in-None .ensures tt))
           _ _ (c .in-Break-place .ensures tt .placed .same) refl refl refl (g .T·Tally·met .lawful) (c .in-Break-place .ensures tt .placed .reason) (c .fingerprint-fingerprint .ensures .below);
-      words = spared NoSeating refl _ _ _ (⊎-elim inl (λ h. inr (h .0, h .1)) (c .in-Break-place .ensures tt .placed .reason)) (c .in-Break-place .ensures tt .kept);
+      words = spared NoSeating refl _ _ _ (⊎-elim inl (λ h. inr (h .0, h .1)) (c .in-Break-place .ensures tt .placed .reason)) (λ barred. ⊎-elim (λ same. same) (λ h. absurd (barred (h .0))) (c .in-Break-place .ensures tt .spared));
     })
