@@ -1,4 +1,4 @@
-// The seats of a table: where a fingerprint may sit, what a seat gives back, and the search for the seat that holds one.
+// The seats of a table: where a fingerprint may sit, what a seat gives back, and how the seat that holds one is found.
 pub mod find;
 pub mod place;
 pub mod refusal;
