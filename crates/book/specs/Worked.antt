@@ -1,6 +1,6 @@
 -- Worked cases of the rules, as one table: a figure that the definitions compute, and what it should be. Assumes nothing.
 use mathlib.Core.Path.{_≡_}
-use mathlib.Core.Bool.{Bool, true, false, _&&_}
+use mathlib.Core.Bool.{true, false}
 use mathlib.Core.List.{List, [], _∷_, _++_, map}
 use Prim.Native.Nat.{ℕ, suc}
 use Rattle.std.specs.shelf.Lists.{All}
@@ -10,10 +10,8 @@ use Rattle.tallies.specs.Traffic.{traffic, traffic-kind}
 use Rattle.rules.specs.Rules.{plain-rule, fnv-rule}
 use Rattle.seats.specs.Shapes.{Size}
 use Rattle.seats.specs.Places.{place-of}
-use Rattle.tallies.specs.declared.replicas.Replicas.{Replicas}
-use Rattle.tallies.specs.declared.traffic.Traffic.{Traffic}
 use Rattle.book.specs.Answers.{answer-number}
-use Rattle.book.specs.Books.{Call, post, blank, answers}
+use Rattle.book.specs.Books.{post, blank, answers}
 
 pub record Case : Type 0 where
   pub figure : ℕ

@@ -1,20 +1,18 @@
 -- The last row in use, cleared bucket by bucket. Assumes nothing.
-use mathlib.Core.Path.{_≡_, refl, sym, ap, subst, _∙_}
-use mathlib.Core.Bool.{Bool, true, false, cond, not}
+use mathlib.Core.Path.{_≡_, sym, ap, subst, _∙_}
+use mathlib.Core.Bool.{true, false, cond, not}
 use mathlib.Core.List.{List}
 use mathlib.Core.Logic.{⊎-elim}
 use Prim.Native.Nat.{ℕ, _+_, _-_, _*_, _<_, _≤_}
 use native.Mathlib.Omega.{arith}
 use lib.Dec.{eqb, ltb}
-use lib.ListN.{length}
 use Rattle.std.proofs.shelf.Tests.{cases-eq, cases-lt, eq-eqb, le-ltb, lt-ltb}
-use Rattle.std.specs.declared.option.Option.{Option}
 use Rattle.std.specs.declared.option.Option.the-variants.{Some, None}
 use Rattle.seats.specs.declared.refusal.Refusal.the-variants.{Seats, Words, RowLimit}
 use Rattle.seats.specs.declared.seat.Seat.{Seat}
 use Rattle.seats.specs.Shapes.{Size, Sound}
-use Rattle.seats.specs.Seats.{Shows, Filled, at, vacant}
-use Rattle.narrowing.specs.Narrowed.{stops, narrower, last-seat, Shifted, Lowered, Cleared, Crowded}
+use Rattle.seats.specs.Seats.{Filled, at}
+use Rattle.narrowing.specs.Narrowed.{stops, last-seat, Shifted, Lowered, Cleared, Crowded}
 use Rattle.narrowing.proofs.Resized.{shows-resized}
 
 pub stops-none : (z : Size) (seats words : ℕ) → 2 * z .buckets ≤ words → 1 < z .rows → seats ≡ z .buckets * z .most → stops z seats words ≡ None
@@ -27,9 +25,6 @@ module _ {X : Type 0} (e : X) {z : Size} (sound : Sound z) (more : 1 < z .rows) 
   -- the last seats of the first n buckets are empty
   abbrev pub Emptied : List (Seat X) → ℕ → Type 0
   Emptied xs n = (other : ℕ) → other < n → at e xs (last-seat z other) .tally ≡ e
-
-  pub shifted-none : Shifted e before before z
-  shifted-none = record { shows = λ _ shows. shows; beyond = λ _ _ _ _ _. refl }
 
   shifted-on : (xs ys : List (Seat X)) → Shifted e before xs z → Shifted e xs ys z → Shifted e before ys z
   shifted-on xs ys was is = record {

@@ -3,11 +3,11 @@ use mathlib.Core.Path.{_≡_, refl, sym, ap, subst, _∙_}
 use mathlib.Core.Bool.{Bool, true, false, cond, not, _||_}
 use mathlib.Core.List.{List}
 use mathlib.Core.Logic.{_⊎_, inl, inr, ⊎-elim}
-use Prim.Native.Nat.{ℕ, _+_, _-_, _*_, _/_, _%_, _<_, _≤_}
+use Prim.Native.Nat.{ℕ, _+_, _-_, _*_, _%_, _<_, _≤_}
 use native.Mathlib.Omega.{arith}
 use lib.Dec.{eqb, ltb}
 use lib.ListN.{length, set}
-use Rattle.std.proofs.shelf.Bits.{div-mul-add, mod-mul-add, mul-add-lt}
+use Rattle.std.proofs.shelf.Bits.{mod-mul-add, mul-add-lt}
 use Rattle.std.proofs.shelf.Lists.{getD-set-same, getD-set-other}
 use Rattle.std.proofs.shelf.Tests.{cond-true, cond-false, cases-bool, cases-eq, cases-lt, eqb-true, eqb-false, eq-eqb, lt-ltb, le-ltb, ltb-true, ltb-false}
 use Rattle.std.specs.declared.option.Option.{Option}
@@ -20,7 +20,7 @@ use Rattle.seats.specs.declared.place.Place.{Place}
 use Rattle.seats.specs.declared.refusal.Refusal.{Refusal}
 use Rattle.seats.specs.declared.refusal.Refusal.the-variants.{Seats, Words, NoAmount}
 use Rattle.seats.specs.declared.seat.Seat.{Seat}
-use Rattle.seats.specs.Shapes.{Size, Sound, with-rows}
+use Rattle.seats.specs.Shapes.{Size, Sound}
 use Rattle.seats.specs.Places.{place-of, given-back}
 use Rattle.seats.specs.Seats.{Filled, Shows, Sits, at, vacant, held, changed}
 use Rattle.seats.proofs.Shown.{place-back, sits-kept, sits-one, same-bucket}

@@ -1,9 +1,9 @@
 -- The theorem over whole runs. Assumes nothing.
-use mathlib.Core.Path.{_≡_, refl, sym, ap, subst, _∙_}
-use mathlib.Core.Bool.{Bool, true, false, cond, not}
+use mathlib.Core.Path.{_≡_, refl, sym, ap, _∙_}
+use mathlib.Core.Bool.{Bool, true, false, not}
 use mathlib.Core.List.{List, [], _∷_}
 use mathlib.Core.Logic.{⊎-elim}
-use Prim.Native.Nat.{ℕ, _+_, _-_, _*_, _<_, _≤_}
+use Prim.Native.Nat.{ℕ, _-_, _*_}
 use native.Mathlib.Omega.{arith}
 use lib.Dec.{ltb}
 use lib.ListN.{length, replicate}
@@ -22,10 +22,10 @@ use Rattle.seats.specs.declared.refusal.Refusal.the-variants.{Words, LongKey, N
 use Rattle.seats.specs.declared.seat.Seat.{Seat}
 use Rattle.seats.specs.Seats.{at, vacant}
 use Rattle.book.specs.declared.answer.Answer.{Answer}
-use Rattle.book.specs.declared.answer.Answer.the-variants.{Tallied, Sized, Refused}
+use Rattle.book.specs.declared.answer.Answer.the-variants.{Tallied, Refused}
 use Rattle.book.specs.Books.{Book, Call, Turn, post, reverse, erase, look-up, widen, narrow, fingerprint, too-few, too-long, has-room, has-slack, check, gets, posted, resize, resized, answer, answers, after, after-all}
 use Rattle.table.specs.declared.table.Table.{Table}
-use Rattle.table.specs.Tables.{Keeps, Fresh, Did, first-book}
+use Rattle.table.specs.Tables.{Keeps, Fresh, first-book}
 use Rattle.replay.specs.Runs.{Step, Ran, Each, calls, told, last-table}
 use Rattle.replay.specs.Account.{AsBook, Exactly-when, WantsSeats, Account}
 

@@ -7,7 +7,7 @@ use Rattle.std.proofs.shelf.Lists.{take-more, take-more-set}
 use Rattle.tallies.specs.Kinds.{Kind}
 use Rattle.rules.specs.Rules.{Meaning}
 use Rattle.book.specs.declared.answer.Answer.{Answer}
-use Rattle.book.specs.Books.{Book, Call, answers, after-all}
+use Rattle.book.specs.Books.{Call, answers, after-all}
 use Rattle.table.specs.declared.request.Request.{Request}
 use Rattle.table.specs.declared.table.Table.{Table}
 use Rattle.table.specs.Tables.{Keeps, Did}

@@ -1,8 +1,8 @@
 -- The theorem over whole runs: a table is held against an account book that is given the same calls. Assumes nothing.
 use mathlib.Core.Path.{_≡_}
-use mathlib.Core.Bool.{Bool, true, false}
-use mathlib.Core.List.{List, [], _∷_}
-use Prim.Native.Nat.{ℕ, _-_}
+use mathlib.Core.Bool.{true, false}
+use mathlib.Core.List.{List}
+use Prim.Native.Nat.{_-_}
 use lib.Dec.{ltb}
 use Rattle.std.specs.declared.option.Option.the-variants.{None}
 use Rattle.tallies.specs.Kinds.{Kind}

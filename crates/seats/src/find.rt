@@ -1,5 +1,4 @@
 // Finding a seat: the one that holds a fingerprint, or the first empty one of a bucket.
-ghost use mathlib.Core.Path.{_≡_};
 ghost use Prim.Native.Nat.{ℕ, _+_, _*_, _<_};
 ghost use Rattle.std.specs.Options.{Cases};
 ghost use Rattle.std.specs.Orderings.{Decides};

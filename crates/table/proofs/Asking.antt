@@ -1,17 +1,13 @@
 -- The call that a request asks for, with a part of the work words. Assumes nothing.
-use mathlib.Core.Path.{_≡_, refl, sym, ap, subst, _∙_}
-use mathlib.Core.Bool.{true}
+use mathlib.Core.Path.{_≡_, ap, subst, _∙_}
 use mathlib.Core.List.{List, _++_}
 use Prim.Native.Nat.{ℕ, min, _-_}
-use native.Mathlib.Nat.{sub-zero}
 use native.Mathlib.Omega.{arith}
 use lib.ListN.{length, take, drop, length-take, take-append-drop}
 use borrow.Rule.Slice.PartMut.{postOf}
 use Rattle.tallies.specs.Kinds.{Kind}
 use Rattle.rules.specs.Rules.{Meaning}
-use Rattle.seats.specs.declared.refusal.Refusal.{Refusal}
 use Rattle.book.specs.declared.answer.Answer.{Answer}
-use Rattle.book.specs.declared.answer.Answer.the-variants.{Refused}
 use Rattle.book.specs.Books.{Call}
 use Rattle.table.specs.declared.table.Table.{Table}
 use Rattle.table.specs.Tables.{Did, SparesWords}

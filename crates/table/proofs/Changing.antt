@@ -1,15 +1,15 @@
 -- Calls that change the entry of one fingerprint. Assumes nothing.
 use mathlib.Core.Path.{_≡_, refl, sym, ap, subst, _∙_}
-use mathlib.Core.Bool.{Bool, true, false, cond}
+use mathlib.Core.Bool.{true, false}
 use mathlib.Core.List.{List}
 use mathlib.Core.Logic.{⊎-elim}
-use Prim.Native.Nat.{ℕ, _+_, _*_, _/_, _%_, _<_, _≤_}
+use Prim.Native.Nat.{ℕ, _+_, _*_, _%_, _<_, _≤_}
 use native.Mathlib.Omega.{arith}
 use lib.Dec.{eqb}
 use lib.ListN.{length, set}
 use denote.Ref.{now, name}
 use Rattle.std.proofs.shelf.Bits.{mod-mul-add}
-use Rattle.std.proofs.shelf.Lists.{getD-set-same, getD-set-other, length-set}
+use Rattle.std.proofs.shelf.Lists.{getD-set-same, getD-set-other}
 use Rattle.std.proofs.shelf.Tests.{cond-true, cond-false, cases-bool}
 use Rattle.std.specs.declared.option.Option.{Option}
 use Rattle.std.specs.declared.option.Option.the-variants.{Some, None}
@@ -20,17 +20,13 @@ use Rattle.seats.specs.declared.seat.Seat.{Seat}
 use Rattle.seats.specs.declared.shape.Shape.{Shape}
 use Rattle.seats.specs.Shapes.{Size, Sound, size}
 use Rattle.seats.specs.Places.{place-of}
-use Rattle.seats.specs.Seats.{Shows, Sits, Filled, at, seat, vacant, changed}
-use Rattle.seats.proofs.Sitting.{shape-sound}
+use Rattle.seats.specs.Seats.{Shows, Sits, at, seat, vacant, changed}
 use Rattle.seats.proofs.Shown.{sits-one, shows-filled, shows-emptied}
 use Rattle.book.specs.declared.answer.Answer.{Answer}
 use Rattle.book.specs.declared.answer.Answer.the-variants.{Tallied, Held, Refused}
 use Rattle.book.specs.Books.{Book, Call, Turn, enter, holding, turn}
 use Rattle.table.specs.declared.table.Table.{Table}
 use Rattle.table.specs.Tables.{Keeps, Did}
-
-some-same : {X : Type 0} (o : Option X) (x y : X) → o ≡ Some x → o ≡ Some y → x ≡ y
-some-same o x y p q = cc
 
 -- one seat of the rows in use is written
 module _ {X : Type 0} (e : X) {z : Size} (sound : Sound z) (xs : List (Seat X)) (f i : ℕ) (sits : Sits e xs z f i) (inside : i < length xs) where

@@ -1,6 +1,6 @@
 -- How many fingerprints a book holds, with one entry changed. Assumes nothing.
 use mathlib.Core.Path.{_≡_, refl, sym, ap, _∙_}
-use mathlib.Core.Bool.{Bool, true, false, cond, not, _&&_, _||_}
+use mathlib.Core.Bool.{Bool, true, false, cond}
 use Prim.Native.Nat.{ℕ, _+_, _<_, _≤_}
 use native.Mathlib.Omega.{arith}
 use lib.Dec.{eqb}
@@ -8,7 +8,7 @@ use Rattle.std.proofs.shelf.Tests.{eqb-true}
 use Rattle.std.specs.Options.{isSome}
 use Rattle.std.specs.declared.option.Option.{Option}
 use Rattle.std.specs.declared.option.Option.the-variants.{Some, None}
-use Rattle.seatings.specs.Counts.{bit, count}
+use Rattle.seatings.specs.Counts.{bit}
 use Rattle.seatings.proofs.Counts.{count-add, count-all, count-le, count-one, count-same}
 use Rattle.seats.specs.Seats.{held}
 use Rattle.book.specs.Books.{Book, enter, holding}

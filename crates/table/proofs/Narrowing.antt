@@ -1,8 +1,7 @@
 -- Narrowing. Assumes nothing.
 use mathlib.Core.Path.{_≡_, refl, sym, ap, subst, _∙_}
 use mathlib.Core.Bool.{Bool, true, false, cond, not}
-use mathlib.Core.List.{List}
-use mathlib.Core.Logic.{_⊎_, inl, inr, ⊎-elim}
+use mathlib.Core.Logic.{_⊎_, ⊎-elim}
 use Prim.Native.Nat.{ℕ, _+_, _-_, _*_, _<_, _≤_}
 use native.Mathlib.Omega.{arith}
 use lib.Dec.{eqb, ltb}
@@ -13,21 +12,20 @@ use Rattle.std.specs.declared.option.Option.{Option}
 use Rattle.std.specs.declared.option.Option.the-variants.{Some, None}
 use Rattle.tallies.specs.Kinds.{Kind}
 use Rattle.rules.specs.Rules.{Meaning}
-use Rattle.seatings.specs.Seatings.{Seating, seatable}
+use Rattle.seatings.specs.Seatings.{seatable}
 use Rattle.seatings.proofs.Decided.{seatable-decides, unseatable}
 use Rattle.seats.specs.declared.refusal.Refusal.{Refusal}
 use Rattle.seats.specs.declared.refusal.Refusal.the-variants.{Seats, Words, RowLimit, NoNarrowSeating}
-use Rattle.seats.specs.declared.seat.Seat.{Seat}
 use Rattle.seats.specs.declared.shape.Shape.{Shape}
 use Rattle.seats.specs.Shapes.{Size, Sound, size, with-rows}
 use Rattle.seats.specs.Seats.{Shows, at, vacant, held}
 use Rattle.seats.proofs.Sitting.{shape-sound}
 use Rattle.seats.proofs.Seated.{shows-seating}
-use Rattle.narrowing.specs.Narrowed.{stops, narrower, last-seat, Shifted, Crowded, Cleared}
+use Rattle.narrowing.specs.Narrowed.{stops, narrower, Shifted, Crowded, Cleared}
 use Rattle.book.specs.declared.answer.Rows.{Rows}
 use Rattle.book.specs.declared.answer.Answer.{Answer}
 use Rattle.book.specs.declared.answer.Answer.the-variants.{Sized, Refused}
-use Rattle.book.specs.Books.{Book, Call, Turn, narrow, too-few, has-slack, check, turn, turned-away, resize, resized}
+use Rattle.book.specs.Books.{Book, Turn, narrow, too-few, has-slack, check, turn, turned-away, resize, resized}
 use Rattle.table.specs.declared.table.Table.{Table}
 use Rattle.table.specs.Tables.{Keeps, Did}
 use Rattle.table.proofs.Changing.{keeps-same}

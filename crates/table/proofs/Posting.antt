@@ -2,7 +2,7 @@
 use mathlib.Core.Path.{_≡_, refl, sym, ap, subst, _∙_, fun-ext}
 use mathlib.Core.Bool.{Bool, true, false, cond, not, _||_}
 use mathlib.Core.List.{List}
-use mathlib.Core.Logic.{_⊎_, inl, inr, ⊎-elim}
+use mathlib.Core.Logic.{_⊎_, ⊎-elim}
 use Prim.Native.Nat.{ℕ, min, _+_, _-_, _*_, _<_, _≤_}
 use native.Mathlib.Omega.{arith}
 use lib.Dec.{eqb, ltb}
@@ -19,21 +19,19 @@ use Rattle.seatings.specs.Seatings.{Seating, also, seatable}
 use Rattle.seatings.proofs.Decided.{seatable-decides, unseatable}
 use Rattle.seats.specs.declared.refusal.Refusal.{Refusal}
 use Rattle.seats.specs.declared.refusal.Refusal.the-variants.{Seats, Words, LongKey, NoAmount, Ceiling, NoSeating}
-use Rattle.seats.specs.declared.shape.Shape.{Shape}
 use Rattle.seats.specs.Shapes.{Size, size}
-use Rattle.seats.specs.Seats.{Shows, at, seat, held, changed}
+use Rattle.seats.specs.Seats.{at, seat, held, changed}
 use Rattle.seats.proofs.Sitting.{shape-sound}
 use Rattle.seats.proofs.Seated.{shows-seating}
 use Rattle.moves.specs.Opening.{Unseatable}
 use Rattle.moves.specs.Placed.{Accepted, bar}
-use Rattle.book.specs.declared.answer.Answer.{Answer}
 use Rattle.book.specs.declared.answer.Answer.the-variants.{Tallied, Refused}
-use Rattle.book.specs.Books.{Book, Call, Turn, post, enter, fingerprint, too-few, too-long, has-room, check, turn, turned-away, gets, joined, posted, holding}
+use Rattle.book.specs.Books.{Book, Turn, post, fingerprint, too-few, too-long, has-room, check, turn, turned-away, gets, joined, posted}
 use Rattle.table.specs.declared.table.Table.{Table}
 use Rattle.table.specs.Tables.{Keeps, Did}
 use Rattle.table.proofs.Counted.{as-many, one-more, holding-few}
-use Rattle.table.proofs.Reading.{SitsIn, Reads, Asked, passed, stopped, reads-some, same-fingerprint, same-entry, unmoved}
-use Rattle.table.proofs.Changing.{Changes, did-change, keeps-same, tallied-accepts}
+use Rattle.table.proofs.Reading.{SitsIn, Reads, Asked, passed, reads-some, same-fingerprint, same-entry, unmoved}
+use Rattle.table.proofs.Changing.{did-change, keeps-same, tallied-accepts}
 use Rattle.table.proofs.Reversing.{retallies, low, some-some}
 
 -- a table that keeps a book is not barred from placing an amount

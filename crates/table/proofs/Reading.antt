@@ -1,6 +1,6 @@
 -- Calls that leave the table as it is, and what the seats say of a fingerprint. Assumes nothing.
 use mathlib.Core.Path.{_≡_, refl, sym, ap, subst, _∙_}
-use mathlib.Core.Bool.{Bool, true, false, cond}
+use mathlib.Core.Bool.{Bool, true, false}
 use mathlib.Core.List.{List}
 use mathlib.Core.Logic.{_⊎_, inl, inr}
 use Prim.Native.Nat.{ℕ, _<_}
@@ -19,14 +19,11 @@ use Rattle.seats.proofs.Sitting.{shape-sound, filled-inside}
 use Rattle.seats.proofs.Shown.{not-shown}
 use Rattle.book.specs.declared.answer.Answer.{Answer}
 use Rattle.book.specs.declared.answer.Answer.the-variants.{Held, Refused}
-use Rattle.book.specs.Books.{Book, Call, Turn, look-up, fingerprint, too-long, check, turn, turned-away}
+use Rattle.book.specs.Books.{Book, Call, Turn, look-up, fingerprint, too-long, check, turn}
 use Rattle.table.specs.declared.table.Table.{Table}
 use Rattle.table.specs.Tables.{Keeps, Did, is-early}
 
--- a check that turns the call away, and one that it passes
-pub stopped : {V : Type 0} (b : Book V) (test : Bool) (why : Refusal) (rest : Turn V) → test ≡ true → check b test why rest ≡ turned-away b why
-stopped b test why rest is = ap (λ x. check b x why rest) is
-
+-- a check that the call passes
 pub passed : {V : Type 0} (b : Book V) (test : Bool) (why : Refusal) (rest : Turn V) → test ≡ false → check b test why rest ≡ rest
 passed b test why rest is = ap (λ x. check b x why rest) is
 

@@ -1,30 +1,22 @@
 -- The same seats with more rows in use, or fewer. Assumes nothing.
-use mathlib.Core.Path.{_≡_, refl, sym, ap, subst, _∙_}
-use mathlib.Core.Bool.{Bool, true, false, cond, not}
-use mathlib.Core.List.{List}
-use mathlib.Core.Logic.{⊎-elim}
+use mathlib.Core.Path.{_≡_, sym, ap, subst, _∙_}
+use mathlib.Core.Bool.{Bool, true, not}
 use Prim.Native.Nat.{ℕ, _+_, _-_, _*_, _<_, _≤_}
 use native.Mathlib.Omega.{arith}
 use lib.Dec.{ltb}
 use lib.ListN.{length}
 use denote.Ref.{now, name}
-use Rattle.std.proofs.shelf.Tests.{cases-lt, lt-ltb, le-ltb}
-use Rattle.std.specs.declared.option.Option.{Option}
+use Rattle.std.proofs.shelf.Tests.{lt-ltb}
 use Rattle.tallies.specs.Kinds.{Kind}
 use Rattle.rules.specs.Rules.{Meaning}
-use Rattle.seats.specs.declared.refusal.Refusal.{Refusal}
 use Rattle.seats.specs.declared.refusal.Refusal.the-variants.{RowLimit}
-use Rattle.seats.specs.declared.seat.Seat.{Seat}
-use Rattle.seats.specs.declared.shape.Shape.{Shape}
 use Rattle.seats.specs.Shapes.{Size, size, with-rows}
 use Rattle.seats.specs.Seats.{Shows, at, vacant}
 use Rattle.narrowing.proofs.Resized.{shows-resized}
-use Rattle.book.specs.declared.answer.Answer.{Answer}
-use Rattle.book.specs.declared.answer.Answer.the-variants.{Sized, Refused}
-use Rattle.book.specs.Books.{Book, Call, Turn, widen, check, turn, turned-away, resize, resized, holding}
+use Rattle.book.specs.declared.answer.Answer.the-variants.{Sized}
+use Rattle.book.specs.Books.{Book, Turn, widen, check, turn, resize, resized}
 use Rattle.table.specs.declared.table.Table.{Table}
 use Rattle.table.specs.Tables.{Keeps, Did}
-use Rattle.table.proofs.Reading.{unmoved}
 
 -- a table whose rows in use alone are other than before
 module _ {V : Type 0} (k : Kind V) (t u : Table V) (buckets : u .shape .buckets ≡ t .shape .buckets) (most : u .shape .most ≡ t .shape .most) (count : u .held ≡ t .held) where
@@ -52,9 +44,6 @@ module _ {V : Type 0} (k : Kind V) (t u : Table V) (buckets : u .shape .buckets 
   same-answer b rows keeps is = λ i. Sized (record { rows = is i; held = (count ∙ keeps .counted) i })
 
 module _ {V : Type 0} (k : Kind V) (rule : Meaning) (t : Table V) where
-  limited : (b : Book V) (room : Bool) → room ≡ false → check b (not room) RowLimit (resized (resize b (b .size .rows + 1))) ≡ turned-away b RowLimit
-  limited b room is = ap (λ x. check b (not x) RowLimit (resized (resize b (b .size .rows + 1)))) is
-
   widens : (b : Book V) (room : Bool) → room ≡ true → check b (not room) RowLimit (resized (resize b (b .size .rows + 1))) ≡ resized (resize b (b .size .rows + 1))
   widens b room is = ap (λ x. check b (not x) RowLimit (resized (resize b (b .size .rows + 1)))) is
 
@@ -63,11 +52,6 @@ module _ {V : Type 0} (k : Kind V) (rule : Meaning) (t : Table V) where
 
   most-are : (b : Book V) → Keeps k t b → b .size .most ≡ t .shape .most
   most-are b keeps = ap (λ (z : Size). z .most) (keeps .sized)
-
-  pub not-widened : t .shape .most ≤ t .shape .rows → Did k rule t widen (Refused RowLimit) t
-  not-widened full =
-      unmoved k rule t widen (Refused RowLimit)
-      (λ b keeps. limited b (ltb (b .size .rows) (b .size .most)) (le-ltb (b .size .rows) (b .size .most) (omega (arith, rows-are b keeps, most-are b keeps))))
 
   pub widened : (u : Table V) → t .shape .rows < t .shape .most → now (u .seats) ≡ now (t .seats) → u .shape .buckets ≡ t .shape .buckets → u .shape .most ≡ t .shape .most →
       u .shape .rows ≡ t .shape .rows + 1 → u .held ≡ t .held → name (u .seats) ≡ name (t .seats) → Did k rule t widen (Sized (record { rows = u .shape .rows; held = u .held })) u

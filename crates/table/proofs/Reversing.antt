@@ -1,5 +1,5 @@
 -- Erasing and reversing. Assumes nothing.
-use mathlib.Core.Path.{_≡_, refl, sym, ap, subst, _∙_}
+use mathlib.Core.Path.{_≡_, sym, ap, subst, _∙_}
 use mathlib.Core.Bool.{Bool, true, false, cond, not}
 use mathlib.Core.List.{List}
 use Prim.Native.Nat.{ℕ, _+_, _-_, _*_, _<_}
@@ -11,19 +11,17 @@ use Rattle.std.specs.declared.option.Option.{Option}
 use Rattle.std.specs.declared.option.Option.the-variants.{Some, None}
 use Rattle.tallies.specs.Kinds.{Kind, Lawful}
 use Rattle.rules.specs.Rules.{Meaning}
-use Rattle.seats.specs.declared.refusal.Refusal.{Refusal}
 use Rattle.seats.specs.declared.refusal.Refusal.the-variants.{LongKey, NoAmount, NotHeld, NotTakenBack}
 use Rattle.seats.specs.Shapes.{Size, size}
 use Rattle.seats.specs.Seats.{Shows, at, seat, vacant, changed}
 use Rattle.seats.proofs.Sitting.{shape-sound}
-use Rattle.book.specs.declared.answer.Answer.{Answer}
 use Rattle.book.specs.declared.answer.Answer.the-variants.{Tallied, Held, Refused}
-use Rattle.book.specs.Books.{Book, Call, Turn, erase, reverse, enter, fingerprint, too-long, check, turn, erased, reversed, taken-back, holding}
+use Rattle.book.specs.Books.{Book, erase, reverse, enter, fingerprint, too-long, check, turn, erased, reversed, taken-back}
 use Rattle.table.specs.declared.table.Table.{Table}
 use Rattle.table.specs.Tables.{Keeps, Did}
 use Rattle.table.proofs.Counted.{one-fewer, as-many}
-use Rattle.table.proofs.Reading.{SitsIn, Reads, Asked, passed, stopped, reads-some, sits-inside, same-fingerprint, same-entry, unmoved}
-use Rattle.table.proofs.Changing.{Changes, TurnsSo, did-change, past-rows, vacated, retallied, tallied-accepts, held-accepts}
+use Rattle.table.proofs.Reading.{SitsIn, Reads, Asked, passed, reads-some, sits-inside, same-fingerprint, same-entry, unmoved}
+use Rattle.table.proofs.Changing.{Changes, did-change, past-rows, vacated, retallied, tallied-accepts, held-accepts}
 
 not-both : (b : Bool) → b ≡ true → b ≡ false → ⊥
 not-both b p q = let z : _≡_ {A = ℕ} 0 1 = cc in omega arith

@@ -1,10 +1,10 @@
-use mathlib.Core.Path.{refl, sym, _∙_}
+use mathlib.Core.Path.{refl, _∙_}
 use mathlib.Core.Logic.{inr}
 use native.Mathlib.Omega.{arith}
 use lib.ListN.{length}
 use Rattle.seats.specs.Shapes.{size}
 use Rattle.seats.proofs.Sitting.{shape-sound}
-use Rattle.narrowing.proofs.Clearing.{stops-none, shifted-none, cleared-more, not-cleared, cleared-all}
+use Rattle.narrowing.proofs.Clearing.{stops-none, cleared-more, not-cleared, cleared-all}
 use Rattle.narrowing.proofs.clear_last_row.Needs as need
 
 pub returns-then-not-lower-entry : need.returns-then-not-lower-entry

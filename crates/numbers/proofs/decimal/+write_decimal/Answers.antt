@@ -1,4 +1,3 @@
-use Prim.Native.Nat.{_<_, _^_}
 use native.Mathlib.Omega.{arith}
 use borrow.Author.Needs.{needs}
 use Rattle.numbers.proofs.Digits.{one-digit, one-digit-put, one-digit-more, last-digit-put}

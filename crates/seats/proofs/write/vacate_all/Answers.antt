@@ -5,7 +5,7 @@ use Prim.Native.Nat.{_<_}
 use native.Mathlib.Omega.{arith}
 use lib.ListN.{length, replicate}
 use Rattle.std.proofs.shelf.Lists.{getD-default, getD-set-same, getD-set-other, length-replicate, getD-replicate, same-lists}
-use Rattle.seats.specs.Seats.{at, vacant}
+use Rattle.seats.specs.Seats.{vacant}
 use Rattle.seats.proofs.write.vacate_all.Needs as need
 
 pub loop-i-again : need.loop-i-again

@@ -1,7 +1,6 @@
-use mathlib.Core.Path.{_≡_, sym, ap, subst, _∙_}
-use Prim.Native.Nat.{ℕ, _+_, _*_}
+use mathlib.Core.Path.{_≡_, ap, _∙_}
+use Prim.Native.Nat.{_+_, _*_}
 use borrow.Author.Needs.{needs}
-use native.Mathlib.Omega.{arith}
 use Rattle.seats.specs.Places.{place-of, given-back}
 use Rattle.seats.proofs.Placing.{place-of-given-back}
 use Rattle.seats.proofs.shape.Shape.fingerprint.Needs as need

@@ -1,11 +1,8 @@
-use mathlib.Core.Path.{_≡_, refl, subst, sym}
+use mathlib.Core.Path.{refl}
 use mathlib.Core.Logic.{inl, inr, ⊎-elim}
 use lib.ListN.{length}
 use Rattle.std.proofs.shelf.Results.{err-from-errBy}
 use Rattle.seats.specs.declared.refusal.Refusal.the-variants.{NoNarrowSeating}
-use Rattle.book.specs.declared.answer.Answer.the-variants.{Refused}
-use Rattle.book.specs.Books.{narrow}
-use Rattle.table.specs.Tables.{Did}
 use Rattle.table.proofs.Reading.{spared}
 use Rattle.table.proofs.Narrowing.{narrow-stopped, narrow-crowded, narrow-done, sized-accepts}
 use Rattle.table.proofs.table.Table.narrow.Needs as need

@@ -1,6 +1,6 @@
 use mathlib.Core.Path.{refl}
 use native.Mathlib.Omega.{arith}
-use Rattle.table.proofs.Resizing.{widened, not-widened}
+use Rattle.table.proofs.Resizing.{widened}
 use Rattle.table.proofs.table.Table.widen.Needs as need
 
 pub returns : need.returns
