@@ -1,13 +1,12 @@
 -- Pieces of a list: one more of them, the piece in a place, and the list put together again. Assumes nothing.
 use mathlib.Core.Path.{_≡_, refl, ap, sym, _∙_}
-use mathlib.Core.Logic.{⊎-elim}
-use mathlib.Core.List.{List, [], _∷_, _++_}
+use mathlib.Core.List.{List, [], _∷_, _++_, append-nil}
 use Prim.Native.Nat.{ℕ, zero, suc, _+_, _-_, _*_, _≤_, _<_}
-use native.Mathlib.Numerals.{add-one}
 use native.Mathlib.Omega.{arith}
-use lib.ListN.{length, take, drop, getD, length-drop, take-append-drop}
+use lib.ListN.{length, take, drop, length-take, length-drop, length-append, take-append-drop}
 use Rattle.std.specs.Joined.{joined}
-use Rattle.std.proofs.shelf.Lists.{drop-drop, take-at, drop-at, nil-from-length}
+use Rattle.std.specs.shelf.Lists.{All}
+use Rattle.std.proofs.shelf.Lists.{drop-drop, take-all, take-at, drop-at, nil-from-length}
 use Rattle.blocks.specs.Pieces.{pieces}
 
 -- the pieces from the i-th on, one step further
@@ -37,3 +36,43 @@ joined-pieces width zero xs room = sym (nil-from-length xs (omega arith))
 joined-pieces width (suc n) xs room =
     let rest = joined-pieces width n (drop width xs) (omega (arith, length-drop width xs)) in
     ap (λ l. take width xs ++ l) rest ∙ take-append-drop width xs
+
+-- every piece but the last has the whole length, and the last has something
+abbrev pub Full : {X : Type 0} → ℕ → List (List X) → Type 0
+Full width [] = Unit {0}
+Full width (p ∷ []) = (1 ≤ length p) × (length p ≤ width)
+Full width (p ∷ q ∷ ps) = (length p ≡ width) × Full width (q ∷ ps)
+
+pub full-if-even : {X : Type 0} (width : ℕ) (ps : List (List X)) → 1 ≤ width → All (λ p. length p ≡ width) ps → Full width ps
+full-if-even width [] some even = tt
+full-if-even width (p ∷ []) some even = let e = even .0 in (omega arith, omega arith)
+full-if-even width (p ∷ q ∷ ps) some even = (even .0, full-if-even width (q ∷ ps) some (even .1))
+
+pub pieces-full : {X : Type 0} (width n : ℕ) (xs : List X) → width * n < length xs → length xs ≤ width * suc n → Full width (pieces width (suc n) xs)
+pieces-full width zero xs more room = let e = length-take width xs in (omega arith, omega arith)
+pieces-full width (suc n) xs more room =
+    let e = length-drop width xs in
+    let less : width * n + width ≡ width * suc n = omega arith in
+    (length-take width xs ∙ omega arith, pieces-full width n (drop width xs) (omega arith) (omega arith))
+
+pub pieces-joined : {X : Type 0} (width : ℕ) (ps : List (List X)) → Full width ps → pieces width (length ps) (joined (λ (p : List X). p) ps) ≡ ps
+pieces-joined width [] full = refl
+pieces-joined width (p ∷ []) full = ap (λ l. l ∷ []) (ap (take width) (append-nil p) ∙ take-all width p (full .1))
+pieces-joined width (p ∷ q ∷ ps) full =
+    let rest = joined (λ p. p) (q ∷ ps) in
+    (λ i. take-at p rest width (full .0) i ∷ pieces width (suc (length ps)) (drop-at p rest width (full .0) i))
+    ∙ ap (λ l. p ∷ l) (pieces-joined width (q ∷ ps) (full .1))
+
+-- how long the list is that full pieces make
+pub record Spans (width n long : ℕ) : Type 0 where
+  pub more : width * n < long
+  pub room : long ≤ width * suc n
+
+pub joined-spans : {X : Type 0} (width : ℕ) (p : List X) (ps : List (List X)) → Full width (p ∷ ps) → Spans width (length ps) (length (joined (λ (p : List X). p) (p ∷ ps)))
+joined-spans width p [] full = let e = length-append p [] in record { more = omega arith; room = omega arith }
+joined-spans width p (q ∷ ps) full =
+    let e = length-append p (joined (λ p. p) (q ∷ ps)) in
+    let rest = joined-spans width q ps (full .1) in
+    let a : width * length ps + width ≡ width * suc (length ps) = omega arith in
+    let b : width * suc (length ps) + width ≡ width * suc (suc (length ps)) = omega arith in
+    record { more = omega (arith, full .0); room = omega (arith, full .0) }
