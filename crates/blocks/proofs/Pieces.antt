@@ -3,7 +3,7 @@ use mathlib.Core.Path.{_≡_, refl, ap, sym, _∙_}
 use mathlib.Core.List.{List, [], _∷_, _++_, append-nil}
 use Prim.Native.Nat.{ℕ, zero, suc, _+_, _-_, _*_, _≤_, _<_}
 use native.Mathlib.Omega.{arith}
-use lib.ListN.{length, take, drop, length-take, length-drop, length-append, take-append-drop}
+use lib.ListN.{length, take, drop, getD, length-take, length-drop, length-append, take-append-drop}
 use Rattle.std.specs.Joined.{joined}
 use Rattle.std.specs.shelf.Lists.{All}
 use Rattle.std.proofs.shelf.Lists.{drop-drop, take-all, take-at, drop-at, nil-from-length}
@@ -22,14 +22,13 @@ pub length-pieces : {X : Type 0} (width n : ℕ) (xs : List X) → length (piece
 length-pieces width zero xs = refl
 length-pieces width (suc n) xs = ap suc (length-pieces width n (drop width xs))
 
--- the pieces without the first i
-pub drop-pieces : {X : Type 0} (width i n : ℕ) (xs : List X) → drop i (pieces width n xs) ≡ pieces width (n - i) (drop (width * i) xs)
-drop-pieces width zero n xs = let a : n ≡ n - 0 = omega arith in let b : 0 ≡ width * 0 = omega arith in λ k. pieces width (a k) (drop (b k) xs)
-drop-pieces width (suc i) zero xs = let a : 0 ≡ 0 - suc i = omega arith in ap (λ m. pieces width m (drop (width * suc i) xs)) a
-drop-pieces width (suc i) (suc n) xs =
-    let a : n - i ≡ suc n - suc i = omega arith in
-    let b : width + width * i ≡ width * suc i = omega arith in
-    drop-pieces width i n (drop width xs) ∙ ap (pieces width (n - i)) (drop-drop (width * i) width xs) ∙ λ k. pieces width (a k) (drop (b k) xs)
+-- the piece in place i
+pub getD-pieces : {X : Type 0} (width i n : ℕ) (xs : List X) → i < n → getD (pieces width n xs) i [] ≡ take width (drop (width * i) xs)
+getD-pieces width i zero xs inside = absurd (omega arith)
+getD-pieces width zero (suc n) xs inside = let none : 0 ≡ width * 0 = omega arith in ap (λ k. take width (drop k xs)) none
+getD-pieces width (suc i) (suc n) xs inside =
+    let place : width + width * i ≡ width * suc i = omega arith in
+    getD-pieces width i n (drop width xs) (omega arith) ∙ ap (take width) (drop-drop (width * i) width xs ∙ ap (λ k. drop k xs) place)
 
 pub joined-pieces : {X : Type 0} (width n : ℕ) (xs : List X) → length xs ≤ width * n → joined (λ (p : List X). p) (pieces width n xs) ≡ xs
 joined-pieces width zero xs room = sym (nil-from-length xs (omega arith))

@@ -1,0 +1,5 @@
+mod Nonzeros
+mod Fronts
+mod Sound
+mod Steps
+mod ToCome
