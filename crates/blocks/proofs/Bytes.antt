@@ -6,10 +6,12 @@ use Prim.Native.Nat.{ℕ, zero, suc, _+_, _*_, _/_, _%_, _^_, _≤_, _<_}
 use native.Mathlib.Nat.{pow-suc}
 use native.Mathlib.Omega.{arith}
 use lib.ListN.{length, take, drop, getD, length-take, length-drop}
+use Rattle.std.specs.shelf.Lists.{All}
 use Rattle.std.proofs.shelf.Lists.{getD-take, getD-drop, getD-past}
 use Rattle.std.proofs.shelf.Tests.{cases-lt}
 use Rattle.numbers.specs.LittleEndian.{number, number-at, bytes-of}
 use Rattle.blocks.specs.Blocks.{Bytes}
+use Rattle.blocks.specs.Pieces.{pieces}
 
 pub number-back : (width n : ℕ) → n < 256 ^ width → number (bytes-of width n) ≡ n
 number-back zero n h = omega arith
@@ -44,3 +46,7 @@ part-back bytes place width room each =
     let part = take width (drop place bytes) in
     let long : length part ≡ width = length-take width (drop place bytes) ∙ omega (arith, length-drop place bytes) in
     ap (λ n. bytes-of n (number part)) (sym long) ∙ bytes-back part (take-bytes (drop place bytes) width (drop-bytes bytes place each))
+
+pub pieces-bytes : (width n : ℕ) (bytes : List ℕ) → Bytes bytes → All Bytes (pieces width n bytes)
+pieces-bytes width zero bytes each = tt
+pieces-bytes width (suc n) bytes each = (take-bytes bytes width each, pieces-bytes width n (drop width bytes) (drop-bytes bytes width each))

@@ -3,10 +3,11 @@ use mathlib.Core.Path.{_≡_, refl, ap, sym, _∙_}
 use mathlib.Core.List.{List, [], _∷_, _++_, append-nil}
 use Prim.Native.Nat.{ℕ, zero, suc, _+_, _-_, _*_, _≤_, _<_}
 use native.Mathlib.Omega.{arith}
-use lib.ListN.{length, take, drop, getD, length-take, length-drop, length-append, take-append-drop}
+use lib.ListN.{length, take, drop, getD, length-take, length-drop, length-append}
+use lib.Seq.{take-add}
 use Rattle.std.specs.Joined.{joined}
 use Rattle.std.specs.shelf.Lists.{All}
-use Rattle.std.proofs.shelf.Lists.{drop-drop, take-all, take-at, drop-at, nil-from-length}
+use Rattle.std.proofs.shelf.Lists.{drop-drop, take-all, take-at, drop-at}
 use Rattle.blocks.specs.Pieces.{pieces}
 
 -- the pieces from the i-th on, one step further
@@ -30,11 +31,17 @@ getD-pieces width (suc i) (suc n) xs inside =
     let place : width + width * i ≡ width * suc i = omega arith in
     getD-pieces width i n (drop width xs) (omega arith) ∙ ap (take width) (drop-drop (width * i) width xs ∙ ap (λ k. drop k xs) place)
 
-pub joined-pieces : {X : Type 0} (width n : ℕ) (xs : List X) → length xs ≤ width * n → joined (λ (p : List X). p) (pieces width n xs) ≡ xs
-joined-pieces width zero xs room = sym (nil-from-length xs (omega arith))
-joined-pieces width (suc n) xs room =
-    let rest = joined-pieces width n (drop width xs) (omega (arith, length-drop width xs)) in
-    ap (λ l. take width xs ++ l) rest ∙ take-append-drop width xs
+pub joined-pieces : {X : Type 0} (width n : ℕ) (xs : List X) → joined (λ (p : List X). p) (pieces width n xs) ≡ take (width * n) xs
+joined-pieces width zero xs = let none : 0 ≡ width * 0 = omega arith in ap (λ k. take k xs) none
+joined-pieces width (suc n) xs =
+    let long : width + width * n ≡ width * suc n = omega arith in
+    ap (λ l. take width xs ++ l) (joined-pieces width n (drop width xs)) ∙ sym (take-add width (width * n) xs) ∙ ap (λ k. take k xs) long
+
+pub pieces-even : {X : Type 0} (width n : ℕ) (xs : List X) → width * n ≤ length xs → All (λ (p : List X). length p ≡ width) (pieces width n xs)
+pieces-even width zero xs room = tt
+pieces-even width (suc n) xs room =
+    let long : width + width * n ≡ width * suc n = omega arith in
+    (length-take width xs ∙ omega arith, pieces-even width n (drop width xs) (omega (arith, length-drop width xs)))
 
 -- every piece but the last has the whole length, and the last has something
 abbrev pub Full : {X : Type 0} → ℕ → List (List X) → Type 0

@@ -24,7 +24,7 @@ use Rattle.paper.specs.declared.fault.PaperFault.{PaperFault}
 use Rattle.paper.specs.declared.fault.PaperFault.the-variants.{Length, InBlock}
 use Rattle.paper.proofs.Fronts.{Front, front-tells}
 
-cond-tells : {T E : Type 0} (b : Bool) (x : Result T E) (e : E) (y : T) → cond b x (Err e) ≡ Ok y → (b ≡ true) × (x ≡ Ok y)
+pub cond-tells : {T E : Type 0} (b : Bool) (x : Result T E) (e : E) (y : T) → cond b x (Err e) ≡ Ok y → (b ≡ true) × (x ≡ Ok y)
 cond-tells true x e y is = (refl, is)
 cond-tells false x e y is = let z : _≡_ {A = ℕ} 0 1 = cc in absurd (omega arith)
 

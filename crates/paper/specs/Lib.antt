@@ -3,3 +3,4 @@ pub mod Faults
 pub mod Headers
 pub mod Reading
 pub mod Records
+pub mod Writing
