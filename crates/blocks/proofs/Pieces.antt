@@ -1,12 +1,13 @@
 -- Pieces of a list: one more of them, the piece in a place, and the list put together again. Assumes nothing.
 use mathlib.Core.Path.{_≡_, refl, ap, sym, _∙_}
-use mathlib.Core.List.{List, [], _∷_, _++_, append-nil}
+use mathlib.Core.List.{List, [], _∷_, _++_, append-assoc, append-nil, map}
 use Prim.Native.Nat.{ℕ, zero, suc, _+_, _-_, _*_, _≤_, _<_}
 use native.Mathlib.Omega.{arith}
 use lib.ListN.{length, take, drop, getD, length-take, length-drop, length-append}
 use lib.Seq.{take-add}
 use Rattle.std.specs.Joined.{joined}
 use Rattle.std.specs.shelf.Lists.{All}
+use Rattle.std.proofs.shelf.Elements.{all-take, all-drop}
 use Rattle.std.proofs.shelf.Lists.{drop-drop, take-all, take-at, drop-at}
 use Rattle.blocks.specs.Pieces.{pieces}
 
@@ -43,16 +44,37 @@ pieces-even width (suc n) xs room =
     let long : width + width * n ≡ width * suc n = omega arith in
     (length-take width xs ∙ omega arith, pieces-even width n (drop width xs) (omega (arith, length-drop width xs)))
 
+pub pieces-all : {X : Type 0} (P : X → Type 0) (width n : ℕ) (xs : List X) → All P xs → All (All P) (pieces width n xs)
+pieces-all P width zero xs each = tt
+pieces-all P width (suc n) xs each = (all-take P width xs each, pieces-all P width n (drop width xs) (all-drop P width xs each))
+
+pub joined-map : {X Y : Type 0} (f : X → List Y) (xs : List X) → joined f xs ≡ joined (λ (ys : List Y). ys) (map f xs)
+joined-map f [] = refl
+joined-map f (x ∷ xs) = ap (λ l. f x ++ l) (joined-map f xs)
+
+-- pieces of one length, with something behind them
+pub even-joined : {X : Type 0} (width : ℕ) (ps : List (List X)) (rest : List X) → All (λ (p : List X). length p ≡ width) ps →
+    pieces width (length ps) (joined (λ (p : List X). p) ps ++ rest) ≡ ps
+even-joined width [] rest even = refl
+even-joined width (p ∷ ps) rest even =
+    let behind = joined (λ p. p) ps ++ rest in
+    ap (pieces width (suc (length ps))) (append-assoc p (joined (λ p. p) ps) rest)
+    ∙ (λ i. take-at p behind width (even .0) i ∷ pieces width (length ps) (drop-at p behind width (even .0) i))
+    ∙ ap (λ l. p ∷ l) (even-joined width ps rest (even .1))
+
+pub length-even : {X : Type 0} (width : ℕ) (ps : List (List X)) → All (λ (p : List X). length p ≡ width) ps → length (joined (λ (p : List X). p) ps) ≡ width * length ps
+length-even width [] even = omega arith
+length-even width (p ∷ ps) even =
+    let e = length-append p (joined (λ p. p) ps) in
+    let i = length-even width ps (even .1) in
+    let long : width + width * length ps ≡ width * suc (length ps) = omega arith in
+    omega (arith, even .0)
+
 -- every piece but the last has the whole length, and the last has something
 abbrev pub Full : {X : Type 0} → ℕ → List (List X) → Type 0
 Full width [] = Unit {0}
 Full width (p ∷ []) = (1 ≤ length p) × (length p ≤ width)
 Full width (p ∷ q ∷ ps) = (length p ≡ width) × Full width (q ∷ ps)
-
-pub full-if-even : {X : Type 0} (width : ℕ) (ps : List (List X)) → 1 ≤ width → All (λ p. length p ≡ width) ps → Full width ps
-full-if-even width [] some even = tt
-full-if-even width (p ∷ []) some even = let e = even .0 in (omega arith, omega arith)
-full-if-even width (p ∷ q ∷ ps) some even = (even .0, full-if-even width (q ∷ ps) some (even .1))
 
 pub pieces-full : {X : Type 0} (width n : ℕ) (xs : List X) → width * n < length xs → length xs ≤ width * suc n → Full width (pieces width (suc n) xs)
 pieces-full width zero xs more room = let e = length-take width xs in (omega arith, omega arith)

@@ -14,7 +14,7 @@ use Rattle.std.proofs.shelf.Tests.{and-parts, eqb-true}
 use Rattle.blocks.specs.Blocks.{Bytes, blocks-in}
 use Rattle.blocks.specs.Pieces.{pieces}
 use Rattle.blocks.proofs.Bytes.{pieces-bytes}
-use Rattle.blocks.proofs.Pieces.{Full, joined-pieces, joined-spans, pieces-even, pieces-joined}
+use Rattle.blocks.proofs.Pieces.{Full, joined-map, joined-pieces, joined-spans, pieces-even, pieces-joined}
 use Rattle.paper.specs.Headers.{header-of}
 use Rattle.paper.specs.Checks.{blocks-checked, paper-checked}
 use Rattle.paper.specs.Reading.{block-records, paper-records}
@@ -47,10 +47,6 @@ blocks-full first i (b ∷ c ∷ bs) h sound =
     let p = blocks-tell first i b (c ∷ bs) h sound in
     (length-block-records b ∙ eqb-true (getD b 6 0) 19 (p .0 .front .count), blocks-full first (suc i) (c ∷ bs) h (p .1))
 
-joined-map : (bs : List (List ℕ)) → joined block-records bs ≡ joined (λ (rs : List Record). rs) (map block-records bs)
-joined-map [] = refl
-joined-map (b ∷ bs) = ap (λ l. block-records b ++ l) (joined-map bs)
-
 regrouped : (rss : List (List Record)) → Full 19 rss → let rs = joined (λ (r : List Record). r) rss in pieces 19 (blocks-for (length rs)) rs ≡ rss
 regrouped [] full = refl
 regrouped (r ∷ rss) full =
@@ -71,7 +67,7 @@ paper-back paper h each sound =
     let back = blocks-back (header-of paper) 0 bs h (pieces-even 512 n paper (omega arith)) (pieces-bytes 512 n paper each) (p .1) in
     let full = blocks-full (header-of paper) 0 bs h (p .1) in
     let groups : pieces 19 (blocks-for (length (paper-records paper))) (paper-records paper) ≡ map block-records bs =
-      ap (λ rs. pieces 19 (blocks-for (length rs)) rs) (joined-map bs) ∙ regrouped (map block-records bs) full in
+      ap (λ rs. pieces 19 (blocks-for (length rs)) rs) (joined-map block-records bs) ∙ regrouped (map block-records bs) full in
     (λ k. joined (λ b. b) (blocks-bytes (sym (back .1) k) 0 (groups k)))
     ∙ ap (joined (λ b. b)) (back .0)
     ∙ joined-pieces 512 n paper

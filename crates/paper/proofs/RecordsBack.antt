@@ -14,9 +14,9 @@ use Rattle.std.proofs.shelf.Tests.{and-parts, leb-true}
 use Rattle.std.proofs.shelf.Ways.{tells}
 use Rattle.blocks.specs.Blocks.{Bytes}
 use Rattle.blocks.proofs.Bytes.{part-back}
+use Rattle.blocks.proofs.Tells.{cond-tells}
 use Rattle.paper.specs.Records.{call-of, code-of, is-code, record-bytes, record-fits, record-of}
 use Rattle.paper.specs.Checks.{part-fits, records-checked}
-use Rattle.paper.proofs.Sound.{cond-tells}
 
 code-back : (n : ℕ) → is-code n ≡ true → code-of (call-of n) ≡ n
 code-back n is = grind (arith, tells)

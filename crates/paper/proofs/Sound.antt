@@ -15,7 +15,7 @@ use Rattle.blocks.specs.Blocks.{blocks-in, check-holds, is-length}
 use Rattle.blocks.specs.Faults.{in-record, then}
 use Rattle.blocks.specs.Pieces.{pieces}
 use Rattle.blocks.proofs.Pieces.{getD-pieces, length-pieces}
-use Rattle.blocks.specs.declared.fault.BlockFault.{BlockFault}
+use Rattle.blocks.proofs.Tells.{cond-tells, then-tells}
 use Rattle.blocks.specs.declared.fault.BlockFault.the-variants.{Check}
 use Rattle.paper.specs.Headers.{header-of}
 use Rattle.paper.specs.Checks.{block-checked, blocks-checked, front-fits, is-nil, paper-checked, records-checked, zeros-checked}
@@ -23,14 +23,6 @@ use Rattle.paper.specs.declared.header.Header.{Header}
 use Rattle.paper.specs.declared.fault.PaperFault.{PaperFault}
 use Rattle.paper.specs.declared.fault.PaperFault.the-variants.{Length, InBlock}
 use Rattle.paper.proofs.Fronts.{Front, front-tells}
-
-pub cond-tells : {T E : Type 0} (b : Bool) (x : Result T E) (e : E) (y : T) → cond b x (Err e) ≡ Ok y → (b ≡ true) × (x ≡ Ok y)
-cond-tells true x e y is = (refl, is)
-cond-tells false x e y is = let z : _≡_ {A = ℕ} 0 1 = cc in absurd (omega arith)
-
-then-tells : {T U E F : Type 0} (lift : E → F) (r : Result T E) (next : Result U F) (y : U) → then lift r next ≡ Ok y → ((x : T) × (r ≡ Ok x)) × (next ≡ Ok y)
-then-tells lift (Ok x) next y is = ((x, refl), is)
-then-tells lift (Err e) next y is = let z : _≡_ {A = ℕ} 0 1 = cc in absurd (omega arith)
 
 ok-tells : {T E : Type 0} (r : Result T E) → isOk r ≡ true → (x : T) × (r ≡ Ok x)
 ok-tells (Ok x) is = (x, refl)
