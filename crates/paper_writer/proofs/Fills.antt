@@ -30,9 +30,9 @@ pub record-filled : (part second third key packets octets : List ℕ) (code : �
 record-filled part second third key packets octets code long lk lp lo is-second is-third =
     let with-call : set part 0 code ≡ put part 0 (code ∷ []) = put-byte part 0 code (omega arith) in
     let with-key : putMid 1 13 (set part 0 code) key ≡ put part 0 (code ∷ key) =
-      ap (λ l. putMid 1 13 l key) with-call ∙ put-part (put part 0 (code ∷ [])) key key 1 13 refl (sym lk) ∙ put-put part (code ∷ []) key 0 1 refl (omega arith) in
+    ap (λ l. putMid 1 13 l key) with-call ∙ put-part (put part 0 (code ∷ [])) key key 1 13 refl (sym lk) ∙ put-put part (code ∷ []) key 0 1 refl (omega arith) in
     let with-packets : second ≡ put part 0 ((code ∷ key) ++ packets) =
-      is-second ∙ ap (λ l. put l 14 packets) with-key ∙ put-put part (code ∷ key) packets 0 14 (omega arith) (omega arith) in
+    is-second ∙ ap (λ l. put l 14 packets) with-key ∙ put-put part (code ∷ key) packets 0 14 (omega arith) (omega arith) in
     let before = length-append (code ∷ key) packets in
     let all = length-append ((code ∷ key) ++ packets) octets in
     is-third ∙ ap (λ l. put l 18 octets) with-packets
@@ -62,7 +62,7 @@ body-filled h place front records before after zeros i width head past within fe
     let n = length records in
     let same : i ≡ n = omega arith in
     let full : take (8 + 26 * n) before ≡ front ++ joined record-bytes records =
-      ap (λ k. take (8 + 26 * k) before) (sym same) ∙ stands ∙ ap (λ l. front ++ joined record-bytes l) (take-all i records past) in
+    ap (λ k. take (8 + 26 * k) before) (sym same) ∙ stands ∙ ap (λ l. front ++ joined record-bytes l) (take-all i records past) in
     let lz : length zeros ≡ 496 - 26 * n = ap length blank ∙ length-replicate (496 - 26 * n) 0 in
     part-next before after zeros _ (8 + 26 * n) width 504 is (omega arith) (omega arith) full
     ∙ append-assoc front (joined record-bytes records) zeros
@@ -91,10 +91,10 @@ pub block-next : (h : Header) (records : List Record) (paper before after block 
 block-next h records paper before after block i n end width inside stands is what last long room =
     let ps = pieces 19 (n - (i + 1)) (drop (19 * (i + 1)) records) in
     let held : block ≡ block-bytes h i (take 19 (drop (19 * i) records)) =
-      what ∙ ap (block-bytes h i) (take-short (drop (19 * i) records) (end - 19 * i) 19 (omega (arith, length-drop (19 * i) records))) in
+    what ∙ ap (block-bytes h i) (take-short (drop (19 * i) records) (end - 19 * i) 19 (omega (arith, length-drop (19 * i) records))) in
     let more : blocks-rest h records n i ≡ block ++ blocks-rest h records n (i + 1) =
-      ap (λ l. joined (λ (b : List ℕ). b) (blocks-bytes h i l)) (pieces-more 19 i n records inside)
-      ∙ (λ k. sym held k ++ joined (λ (b : List ℕ). b) (blocks-bytes h (sym (add-one i) k) ps)) in
+    ap (λ l. joined (λ (b : List ℕ). b) (blocks-bytes h i l)) (pieces-more 19 i n records inside)
+    ∙ (λ k. sym held k ++ joined (λ (b : List ℕ). b) (blocks-bytes h (sym (add-one i) k) ps)) in
     ap (λ l. l ++ blocks-rest h records n (i + 1)) (part-next before after block (take (512 * i) before) (512 * i) width (512 * (i + 1)) is room (omega arith) refl)
     ∙ append-assoc (take (512 * i) before) block (blocks-rest h records n (i + 1))
     ∙ ap (λ l. take (512 * i) before ++ l) (sym more)

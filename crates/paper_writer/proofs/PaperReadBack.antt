@@ -80,7 +80,7 @@ paper-back-of h records m groups most more room fits fit =
     let cut : blocks-in all ≡ bs = (λ k. pieces 512 (whole k) (sym (append-nil all) k)) ∙ even-joined 512 bs [] (back .even) in
     let head : header-of all ≡ h = header-begins h 0 (take 19 records) (joined (λ (b : List ℕ). b) (blocks-bytes h 1 (pieces 19 m (drop 19 records)))) fits in
     let same : paper-records all ≡ records =
-      ap (joined block-records) cut ∙ back .same ∙ joined-pieces 19 (suc m) records ∙ take-all (19 * suc m) records room in
+    ap (joined block-records) cut ∙ back .same ∙ joined-pieces 19 (suc m) records ∙ take-all (19 * suc m) records room in
     (ap paper-checked is ∙ sound-from all h bs fitting head cut (back .sound), ap paper-records is ∙ same)
 
 pub paper-back : (h : Header) (records : List Record) → 1 ≤ length records → length records ≤ 1900 → header-fits h ≡ true → All (Fit (h .kind)) records → Read-back (paper-bytes h records) h records

@@ -165,6 +165,7 @@ block-read-back h place last records fits count few fit =
     let parts = parts-laid (h .kind) records rest fit in
     let front = ap (front-fits h place last) is ∙ front-laid h place last records rest fits count in
     let recs = ap (λ b. records-checked (getD b 5 0) place 0 (pieces 26 (getD b 6 0) (drop 8 b))) is ∙ ap (records-checked (h .kind) place 0) parts ∙ records-fit (h .kind) place 0 records fit in
-    let zeros = ap (λ b. zeros-checked place (8 + 26 * getD b 6 0) b) is ∙ zeros-laid (h .kind) h place records (check-of h place records) fit few in
-    (sound-from h place last (block-bytes h place records) (holds-written h place records fit few) front recs zeros,
-    ap block-records is ∙ ap (map record-of) parts ∙ records-same (h .kind) records fit)
+    let zeros = ap (λ b. zeros-checked place (8 + 26 * getD b 6 0) b) is ∙ zeros-laid (h .kind) h place records (check-of h place records) fit few in (
+      sound-from h place last (block-bytes h place records) (holds-written h place records fit few) front recs zeros,
+      ap block-records is ∙ ap (map record-of) parts ∙ records-same (h .kind) records fit,
+    )

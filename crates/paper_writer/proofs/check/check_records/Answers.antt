@@ -17,9 +17,10 @@ returns-then-not-fits c =
     }
 
 pub loop-k-again : need.loop-k-again
-loop-k-again c =
-    (sym (records-step _ _ _ _ _ (c .loop-k-test .taken) (sym (c .if-not-fits .ensures tt .value))) ∙ c .loop-k .inv .0,
-    all-more Held (c .args .records .now) (c .loop-k .k) _ (c .loop-k-test .taken) (c .loop-k .inv .1) (c .if-not-fits .ensures tt .held))
+loop-k-again c = (
+  sym (records-step _ _ _ _ _ (c .loop-k-test .taken) (sym (c .if-not-fits .ensures tt .value))) ∙ c .loop-k .inv .0,
+  all-more Held (c .args .records .now) (c .loop-k .k) _ (c .loop-k-test .taken) (c .loop-k .inv .1) (c .if-not-fits .ensures tt .held),
+)
 
 pub returns : need.returns
 returns c =

@@ -26,9 +26,9 @@ returns-in-Break-check-contents c =
     let refused : isOk (c .from-residual .result) ≡ false = ap isOk (p .1) in
     record {
       answer =
-        p .1 ∙ ap Err (p .2)
-        ∙ ap (λ r. then InBlock r (Ok tt)) (c .in-Break-check-contents .ensures tt .answer)
-        ∙ sym (room-checked (length (c .args .buffer .now)) (c .args .header) rs (omega arith) (omega arith) (omega arith));
+          p .1 ∙ ap Err (p .2)
+          ∙ ap (λ r. then InBlock r (Ok tt)) (c .in-Break-check-contents .ensures tt .answer)
+          ∙ sym (room-checked (length (c .args .buffer .now)) (c .args .header) rs (omega arith) (omega arith) (omega arith));
       bytes = ap (λ b. cond b (paper-bytes (c .args .header) rs) (c .args .buffer .now)) (sym refused);
       read-back = λ is. absurd (false≢true (sym refused ∙ is));
     }
@@ -42,8 +42,8 @@ returns c =
     let back = paper-back h rs (omega arith) (omega arith) (fit .0) (fit .1) in
     record {
       answer =
-        ap (λ r. then InBlock r (Ok tt)) (checked .answer)
-        ∙ sym (room-checked (length (c .args .buffer .now)) h rs (omega arith) (omega arith) (omega arith));
+          ap (λ r. then InBlock r (Ok tt)) (checked .answer)
+          ∙ sym (room-checked (length (c .args .buffer .now)) h rs (omega arith) (omega arith) (omega arith));
       bytes = c .write-blocks .ensures;
       read-back = λ _. subst (λ b. Read-back b h rs) (sym (c .write-blocks .ensures)) back;
     }
