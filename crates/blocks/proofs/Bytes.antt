@@ -10,8 +10,11 @@ use Rattle.std.specs.shelf.Lists.{All}
 use Rattle.std.proofs.shelf.Lists.{getD-take, getD-drop, getD-past}
 use Rattle.std.proofs.shelf.Tests.{cases-lt}
 use Rattle.numbers.specs.LittleEndian.{number, number-at, bytes-of}
-use Rattle.blocks.specs.Blocks.{Bytes}
 use Rattle.blocks.specs.Pieces.{pieces}
+
+-- what a slice of bytes holds
+abbrev pub Bytes : List ℕ → Type 0
+Bytes bytes = (i : ℕ) → getD bytes i 0 < 256
 
 pub number-back : (width n : ℕ) → n < 256 ^ width → number (bytes-of width n) ≡ n
 number-back zero n h = omega arith

@@ -1,8 +1,8 @@
 -- A block's check, written and read. Assumes nothing.
-use mathlib.Core.Path.{_≡_, refl, ap, sym, _∙_}
+use mathlib.Core.Path.{_≡_, ap, sym, _∙_}
 use mathlib.Core.Bool.{true}
-use mathlib.Core.List.{List, [], _∷_, _++_, append-nil}
-use Prim.Native.Nat.{ℕ, _+_, _*_, _%_, _^_, _≤_, _<_}
+use mathlib.Core.List.{List, [], _∷_, _++_}
+use Prim.Native.Nat.{ℕ, _+_, _^_, _<_}
 use native.Mathlib.Omega.{arith}
 use lib.ListN.{length, take, drop, length-append, length-drop, take-append-drop}
 use Rattle.std.specs.Iters.{folded}
@@ -11,9 +11,9 @@ use Rattle.std.proofs.shelf.Lists.{take-at, drop-at, take-all, drop-all}
 use Rattle.std.proofs.shelf.Tests.{eqb-true, eq-eqb}
 use Rattle.numbers.specs.Buffers.{put}
 use Rattle.numbers.specs.Fnv.{fnv-1a, fnv-step}
-use Rattle.numbers.specs.LittleEndian.{number, number-at, bytes-of}
-use Rattle.blocks.specs.Blocks.{Bytes, with-check, check-holds}
-use Rattle.blocks.proofs.Bytes.{number-back, part-back}
+use Rattle.numbers.specs.LittleEndian.{number, bytes-of}
+use Rattle.blocks.specs.Blocks.{with-check, check-holds}
+use Rattle.blocks.proofs.Bytes.{Bytes, number-back, part-back}
 
 pub written-check : (block : List ℕ) (check : ℕ) → length block ≡ 512 → check ≡ fnv-1a (take 504 block) →
     put block 504 (bytes-of 8 check) ≡ with-check (take 504 block)

@@ -1,18 +1,14 @@
 -- Bytes in whole blocks of 512, and the check in a block's last eight. Assumes nothing.
 use mathlib.Core.List.{List, _++_}
 use mathlib.Core.Bool.{Bool, cond, _&&_}
-use Prim.Native.Nat.{ℕ, _/_, _%_, _<_}
+use Prim.Native.Nat.{ℕ, _/_, _%_}
 use lib.Dec.{leb, ltb, eqb}
-use lib.ListN.{length, take, getD}
+use lib.ListN.{length, take}
 use Rattle.std.specs.declared.option.Option.{Option}
 use Rattle.std.specs.declared.option.Option.the-variants.{Some, None}
 use Rattle.numbers.specs.Fnv.{fnv-1a}
 use Rattle.numbers.specs.LittleEndian.{number-at, bytes-of}
 use Rattle.blocks.specs.Pieces.{pieces}
-
--- what a slice of bytes holds
-abbrev pub Bytes : List ℕ → Type 0
-Bytes bytes = (i : ℕ) → getD bytes i 0 < 256
 
 -- not empty, at most 100 blocks of 512 bytes, and of whole blocks
 abbrev pub is-length : ℕ → Bool

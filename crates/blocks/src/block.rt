@@ -6,6 +6,9 @@ pub const BLOCK: usize = 512;
 
 pub const MOST_BLOCKS: usize = 100;
 
+// The bytes of a block before its check.
+pub const BODY: usize = 504;
+
 // How many blocks the bytes are, or nothing if they are none, more than the most, or not whole blocks.
 pub fn count_blocks(bytes: &[u8]) -> Option<usize>
     ensures { λ r. ⌜ r ≡ count-in (length (now (bytes .entry))) ⌝ }

@@ -1,8 +1,8 @@
 -- A sound block, read and written again. Assumes nothing.
 use mathlib.Core.Path.{_≡_, refl, ap, sym, _∙_}
-use mathlib.Core.Bool.{Bool, true, false, cond, _&&_}
-use mathlib.Core.List.{List, [], _∷_, _++_, append-assoc, map}
-use Prim.Native.Nat.{ℕ, zero, suc, _+_, _-_, _*_, _≤_, _<_}
+use mathlib.Core.Bool.{Bool, true, false, cond}
+use mathlib.Core.List.{List, [], _∷_, _++_, append-assoc}
+use Prim.Native.Nat.{ℕ, suc, _+_, _-_, _*_, _≤_, _<_}
 use native.Mathlib.Omega.{arith}
 use lib.Dec.{eqb}
 use lib.ListN.{length, take, drop, getD, replicate, length-take, length-drop, length-map}
@@ -10,19 +10,17 @@ use lib.Seq.{take-add}
 use Rattle.std.specs.Joined.{joined}
 use Rattle.std.specs.declared.option.Option.{Option}
 use Rattle.std.specs.declared.option.Option.the-variants.{Some, None}
-use Rattle.std.specs.declared.result.Result.{Result}
-use Rattle.std.specs.declared.result.Result.the-variants.{Ok, Err}
+use Rattle.std.specs.declared.result.Result.the-variants.{Ok}
 use Rattle.std.proofs.shelf.Lists.{drop-drop, drop-more}
 use Rattle.std.proofs.shelf.Tests.{and-parts, eqb-true}
-use Rattle.numbers.specs.LittleEndian.{bytes-of, number-at}
-use Rattle.blocks.specs.Blocks.{Bytes, with-check}
+use Rattle.blocks.specs.Blocks.{with-check}
 use Rattle.blocks.specs.Pieces.{pieces}
-use Rattle.blocks.proofs.Bytes.{drop-bytes, part-back, pieces-bytes}
+use Rattle.blocks.proofs.Bytes.{Bytes, drop-bytes, part-back, pieces-bytes}
 use Rattle.blocks.proofs.Checks.{check-written-back}
 use Rattle.blocks.proofs.Pieces.{joined-pieces, length-pieces, pieces-even}
 use Rattle.paper.specs.Headers.{header-bytes, header-of, same-header}
 use Rattle.paper.specs.Records.{first-nonzero, record-bytes, record-of}
-use Rattle.paper.specs.Checks.{stray, zeros-checked}
+use Rattle.paper.specs.Checks.{stray}
 use Rattle.paper.specs.Reading.{block-records}
 use Rattle.paper.specs.Writing.{block-body, block-bytes}
 use Rattle.paper.specs.declared.header.Header.{Header}

@@ -1,19 +1,18 @@
 -- A sound paper, read and written again. Assumes nothing.
 use mathlib.Core.Path.{_≡_, refl, ap, sym, _∙_}
-use mathlib.Core.Bool.{Bool, true, false, cond, _&&_}
-use mathlib.Core.List.{List, [], _∷_, _++_, map}
-use Prim.Native.Nat.{ℕ, zero, suc, _+_, _-_, _*_, _/_, _%_, _≤_, _<_}
+use mathlib.Core.List.{List, [], _∷_, map}
+use Prim.Native.Nat.{ℕ, suc, _-_, _*_, _/_, _%_}
 use native.Mathlib.Omega.{arith}
-use lib.Dec.{eqb, leb, ltb}
-use lib.ListN.{length, take, drop, getD}
+use lib.Dec.{leb, ltb}
+use lib.ListN.{length, getD}
 use Rattle.std.specs.Joined.{joined}
 use Rattle.std.specs.shelf.Lists.{All}
 use Rattle.std.specs.declared.result.Result.the-variants.{Ok}
 use Rattle.std.proofs.shelf.Lists.{take-all}
 use Rattle.std.proofs.shelf.Tests.{and-parts, eqb-true}
-use Rattle.blocks.specs.Blocks.{Bytes, blocks-in}
+use Rattle.blocks.specs.Blocks.{blocks-in}
 use Rattle.blocks.specs.Pieces.{pieces}
-use Rattle.blocks.proofs.Bytes.{pieces-bytes}
+use Rattle.blocks.proofs.Bytes.{Bytes, pieces-bytes}
 use Rattle.blocks.proofs.Pieces.{Full, joined-map, joined-pieces, joined-spans, pieces-even, pieces-joined}
 use Rattle.paper.specs.Headers.{header-of}
 use Rattle.paper.specs.Checks.{blocks-checked, paper-checked}

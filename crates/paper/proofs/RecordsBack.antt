@@ -2,18 +2,16 @@
 use mathlib.Core.Path.{_≡_, refl, ap, sym, _∙_}
 use mathlib.Core.Bool.{true}
 use mathlib.Core.List.{List, [], _∷_, _++_, map}
-use Prim.Native.Nat.{ℕ, zero, suc, _+_, _-_, _*_, _≤_, _<_}
+use Prim.Native.Nat.{ℕ, suc, _+_, _-_}
 use native.Mathlib.Omega.{arith}
-use lib.Dec.{leb}
 use lib.ListN.{length, take, drop, getD, length-drop, take-append-drop}
 use Rattle.std.specs.Joined.{joined}
 use Rattle.std.specs.shelf.Lists.{All}
 use Rattle.std.specs.declared.result.Result.the-variants.{Ok}
 use Rattle.std.proofs.shelf.Lists.{drop-drop, take-all}
-use Rattle.std.proofs.shelf.Tests.{and-parts, leb-true}
+use Rattle.std.proofs.shelf.Tests.{and-parts}
 use Rattle.std.proofs.shelf.Ways.{tells}
-use Rattle.blocks.specs.Blocks.{Bytes}
-use Rattle.blocks.proofs.Bytes.{part-back}
+use Rattle.blocks.proofs.Bytes.{Bytes, part-back}
 use Rattle.blocks.proofs.Tells.{cond-tells}
 use Rattle.paper.specs.Records.{call-of, code-of, is-code, record-bytes, record-fits, record-of}
 use Rattle.paper.specs.Checks.{part-fits, records-checked}

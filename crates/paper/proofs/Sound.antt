@@ -1,18 +1,18 @@
 -- What a sound block and a sound paper tell. Assumes nothing.
-use mathlib.Core.Path.{_≡_, refl, ap, sym, _∙_}
-use mathlib.Core.Bool.{Bool, true, false, cond, _&&_}
+use mathlib.Core.Path.{_≡_, refl, ap, _∙_}
+use mathlib.Core.Bool.{Bool, true, false}
 use mathlib.Core.List.{List, [], _∷_}
 use Prim.Native.Nat.{ℕ, zero, suc, _+_, _-_, _*_, _/_, _%_, _≤_, _<_}
 use native.Mathlib.Omega.{arith}
-use lib.Dec.{eqb, leb, ltb}
-use lib.ListN.{length, take, drop, getD}
+use lib.Dec.{leb, ltb}
+use lib.ListN.{length, drop, getD}
 use Rattle.std.specs.Results.{isOk}
 use Rattle.std.specs.declared.result.Result.{Result}
 use Rattle.std.specs.declared.result.Result.the-variants.{Ok, Err}
 use Rattle.std.proofs.shelf.Lists.{getD-take, getD-drop}
 use Rattle.std.proofs.shelf.Tests.{false≢true, and-parts, leb-true, eqb-true}
 use Rattle.blocks.specs.Blocks.{blocks-in, check-holds, is-length}
-use Rattle.blocks.specs.Faults.{in-record, then}
+use Rattle.blocks.specs.Faults.{in-record}
 use Rattle.blocks.specs.Pieces.{pieces}
 use Rattle.blocks.proofs.Pieces.{getD-pieces, length-pieces}
 use Rattle.blocks.proofs.Tells.{cond-tells, then-tells}
@@ -20,7 +20,6 @@ use Rattle.blocks.specs.declared.fault.BlockFault.the-variants.{Check}
 use Rattle.paper.specs.Headers.{header-of}
 use Rattle.paper.specs.Checks.{block-checked, blocks-checked, front-fits, is-nil, paper-checked, records-checked, zeros-checked}
 use Rattle.paper.specs.declared.header.Header.{Header}
-use Rattle.paper.specs.declared.fault.PaperFault.{PaperFault}
 use Rattle.paper.specs.declared.fault.PaperFault.the-variants.{Length, InBlock}
 use Rattle.paper.proofs.Fronts.{Front, front-tells}
 

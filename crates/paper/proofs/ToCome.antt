@@ -1,8 +1,8 @@
 -- The records still to come, one step on. Assumes nothing.
-use mathlib.Core.Path.{_≡_, refl, ap, sym, _∙_}
+use mathlib.Core.Path.{_≡_, ap, sym, _∙_}
 use mathlib.Core.Logic.{⊎-elim}
 use mathlib.Core.List.{List, [], _∷_, _++_, map}
-use Prim.Native.Nat.{ℕ, zero, suc, _+_, _-_, _*_, _/_, _≤_, _<_}
+use Prim.Native.Nat.{ℕ, _+_, _-_, _*_, _/_, _≤_, _<_}
 use native.Mathlib.Omega.{arith}
 use lib.ListN.{length, take, drop, getD, length-map}
 use Rattle.std.specs.Joined.{joined}
@@ -11,7 +11,7 @@ use Rattle.std.proofs.shelf.Tests.{cases-lt}
 use Rattle.blocks.specs.Blocks.{blocks-in}
 use Rattle.blocks.specs.Pieces.{pieces}
 use Rattle.blocks.proofs.Pieces.{getD-pieces, length-pieces}
-use Rattle.paper.specs.Reading.{block-records, paper-records, to-come}
+use Rattle.paper.specs.Reading.{block-records, to-come}
 use Rattle.paper.specs.Records.{record-of}
 use Rattle.paper.specs.declared.«record».Record.{Record}
 

@@ -6,20 +6,28 @@ ghost use Rattle.blocks.specs.Pieces.{pieces};
 ghost use Rattle.paper.specs.Checks.{block-checked, count-fits, front-fits, part-fits, record-at, records-checked, zeros-checked};
 ghost use Rattle.paper.specs.Records.{is-code};
 use crate::header::Header;
+use crate::layout::FRONT;
+use crate::layout::FULL;
+use crate::layout::RECORD;
 use crate::record::Record;
 use crate::zeros::first_nonzero;
+use blocks::block::BODY;
 use blocks::check::check_holds;
 use blocks::fault::BlockFault;
 use blocks::fault::BlockFromRecord;
 use blocks::fault::RecordFault;
 
+const FULL_COUNT: u8 = FULL as u8;
+
+const RECORDS_END: usize = FRONT + RECORD * FULL;
+
 fn count_fits(last: bool, count: u8) -> bool
     ensures { λ r. ⌜ r ≡ count-fits last count ⌝ }
 {
     if last {
-        count >= 1 && count <= 19
+        count >= 1 && count <= FULL_COUNT
     } else {
-        count == 19
+        count == FULL_COUNT
     }
 }
 
@@ -45,8 +53,8 @@ fn check_records(block: &[u8], place: u8) -> Result<(), RecordFault>
     let kind = block[5];
     let count = block[6];
     for i in 0..count {
-        let from = 8 + 26 * usize::from(i);
-        if !part_fits(&block[from..from + 26], kind) {
+        let from = FRONT + RECORD * usize::from(i);
+        if !part_fits(&block[from..from + RECORD], kind) {
             return Err(RecordFault {
                 block: place,
                 record: i + 1,
@@ -60,8 +68,8 @@ fn record_at(byte: usize) -> u8
     requires { ⌜ byte < 504 ⌝ }
     ensures { λ r. ⌜ r ≡ record-at byte ⌝ }
 {
-    if byte < 502 {
-        (byte.saturating_sub(8) / 26 + 1) as u8
+    if byte < RECORDS_END {
+        (byte.saturating_sub(FRONT) / RECORD + 1) as u8
     } else {
         0
     }
@@ -72,8 +80,8 @@ fn check_zeros(block: &[u8], place: u8) -> Result<(), RecordFault>
     requires { ⌜ length (now block) ≡ 512 ⌝ ∗ ⌜ getD (now block) 6 0 ≤ 19 ⌝ }
     ensures { λ r. ⌜ r ≡ zeros-checked place (8 + 26 * getD (now (block .entry)) 6 0) (now (block .entry)) ⌝ }
 {
-    let from = 8 + 26 * usize::from(block[6]);
-    match first_nonzero(&block[from..504]) {
+    let from = FRONT + RECORD * usize::from(block[6]);
+    match first_nonzero(&block[from..BODY]) {
         None => Ok(()),
         Some(k) => Err(RecordFault {
             block: place,

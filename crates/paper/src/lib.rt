@@ -3,6 +3,7 @@ mod block;
 pub mod check;
 pub mod fault;
 pub mod header;
+pub mod layout;
 pub mod reader;
 pub mod record;
 mod zeros;

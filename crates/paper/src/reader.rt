@@ -6,6 +6,8 @@ ghost use Prim.Native.Nat.{_*_, _+_, _/_, _≤_, _<_};
 ghost use Rattle.std.specs.Results.{isOk};
 ghost use Rattle.paper.specs.Checks.{paper-checked};
 ghost use Rattle.paper.specs.Reading.{first-of, others-of, paper-records, to-come};
+use crate::layout::FRONT;
+use crate::layout::RECORD;
 use crate::record::Record;
 use blocks::block::BLOCK;
 
@@ -41,8 +43,8 @@ impl<'a> Reader<'a> {
         if start >= self.paper.len() {
             return None;
         }
-        let from = start + 8 + 26 * self.record;
-        let found = Record::read(&self.paper[from..from + 26]);
+        let from = start + FRONT + RECORD * self.record;
+        let found = Record::read(&self.paper[from..from + RECORD]);
         if self.record + 1 < usize::from(self.paper[start + 6]) {
             self.record += 1;
         } else {

@@ -1,25 +1,25 @@
 -- What is written of a fit header and fit records is a sound paper, and is read as the same. Assumes nothing.
 use mathlib.Core.Path.{_≡_, refl, ap, sym, _∙_}
-use mathlib.Core.Bool.{Bool, true, false, cond, _&&_}
+use mathlib.Core.Bool.{true, false, cond, _&&_}
 use mathlib.Core.List.{List, [], _∷_, _++_, append-nil}
-use Prim.Native.Nat.{ℕ, zero, suc, _+_, _-_, _*_, _/_, _%_, _≤_, _<_}
+use Prim.Native.Nat.{ℕ, suc, _+_, _-_, _*_, _/_, _≤_, _<_}
 use native.Mathlib.Omega.{arith}
-use lib.Dec.{eqb, leb, ltb}
+use lib.Dec.{leb}
 use lib.ListN.{length, take, drop}
 use Rattle.std.specs.Joined.{joined}
 use Rattle.std.specs.shelf.Lists.{All}
 use Rattle.std.specs.declared.result.Result.the-variants.{Ok, Err}
 use Rattle.std.proofs.shelf.Lists.{take-all}
-use Rattle.std.proofs.shelf.Tests.{and-from, eq-eqb}
+use Rattle.std.proofs.shelf.Tests.{eq-eqb}
 use Rattle.std.proofs.shelf.Ways.{tells}
-use Rattle.blocks.specs.Blocks.{blocks-in, is-length, with-check}
+use Rattle.blocks.specs.Blocks.{blocks-in, is-length}
 use Rattle.blocks.specs.Faults.{then}
 use Rattle.blocks.specs.Pieces.{pieces}
 use Rattle.blocks.proofs.Pieces.{Full, even-joined, joined-pieces, length-even, length-pieces, pieces-all, pieces-full}
-use Rattle.paper.specs.Headers.{header-bytes, header-fits, header-of}
-use Rattle.paper.specs.Checks.{block-checked, blocks-checked, paper-checked}
+use Rattle.paper.specs.Headers.{header-fits, header-of}
+use Rattle.paper.specs.Checks.{blocks-checked, paper-checked}
 use Rattle.paper.specs.Reading.{block-records, paper-records}
-use Rattle.paper.specs.Writing.{block-bytes, blocks-bytes, blocks-for, paper-bytes}
+use Rattle.paper.specs.Writing.{blocks-bytes, blocks-for, paper-bytes}
 use Rattle.paper.specs.declared.header.Header.{Header}
 use Rattle.paper.specs.declared.«record».Record.{Record}
 use Rattle.paper.specs.declared.fault.PaperFault.the-variants.{Length, InBlock}

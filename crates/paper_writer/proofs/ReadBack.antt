@@ -1,14 +1,14 @@
 -- What is written of fit records is found fit, and read as the same. Assumes nothing.
 use mathlib.Core.Path.{_≡_, refl, ap, sym, _∙_}
-use mathlib.Core.Bool.{Bool, true, false, cond, _&&_}
+use mathlib.Core.Bool.{Bool, true, cond}
 use mathlib.Core.List.{List, [], _∷_, _++_, append-assoc, map}
-use Prim.Native.Nat.{ℕ, zero, suc, _+_, _-_, _*_, _/_, _%_, _^_, _≤_, _<_}
+use Prim.Native.Nat.{ℕ, zero, suc, _+_, _-_, _*_, _/_, _%_, _≤_}
 use native.Mathlib.Omega.{arith}
-use lib.Dec.{eqb, leb}
+use lib.Dec.{leb}
 use lib.ListN.{length, take, drop, getD, replicate, length-append, length-map}
 use Rattle.std.specs.Joined.{joined}
 use Rattle.std.specs.shelf.Lists.{All}
-use Rattle.std.specs.declared.option.Option.the-variants.{Some, None}
+use Rattle.std.specs.declared.option.Option.the-variants.{None}
 use Rattle.std.specs.declared.result.Result.the-variants.{Ok, Err}
 use Rattle.std.proofs.shelf.Elements.{all-map, all-weaker}
 use Rattle.std.proofs.shelf.Lists.{drop-at, drop-drop, length-replicate, take-at}
@@ -16,7 +16,6 @@ use Rattle.std.proofs.shelf.Tests.{and-from, and-parts, eq-eqb, leb-true}
 use Rattle.numbers.specs.Fnv.{fnv-1a}
 use Rattle.numbers.specs.LittleEndian.{bytes-of, number}
 use Rattle.blocks.specs.Blocks.{check-holds, with-check}
-use Rattle.blocks.specs.Faults.{in-record, then}
 use Rattle.blocks.specs.Pieces.{pieces}
 use Rattle.blocks.proofs.Bytes.{number-back}
 use Rattle.blocks.proofs.Checks.{check-read-back, length-with-check}

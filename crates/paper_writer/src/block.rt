@@ -6,10 +6,13 @@ ghost use lib.ListN.{length};
 ghost use Rattle.paper.specs.Headers.{header-bytes};
 ghost use Rattle.paper.specs.Records.{record-bytes};
 ghost use Rattle.paper.specs.Writing.{block-bytes};
+use blocks::block::BODY;
 use blocks::check::write_check;
 use numbers::little_endian::write_u32;
 use numbers::little_endian::write_u64;
 use paper::header::Header;
+use paper::layout::FRONT;
+use paper::layout::RECORD;
 use paper::record::Record;
 
 fn write_front(part: &mut [u8], header: Header, count: u8, place: u8)
@@ -45,11 +48,11 @@ pub fn write_block(block: &mut [u8], header: Header, place: u8, records: &[Recor
     requires { ⌜ length (now block) ≡ 512 ⌝ ∗ ⌜ length (now records) ≤ 19 ⌝ }
     ensures { λ _. ⌜ now (block .exit) ≡ block-bytes header place (now (records .entry)) ⌝ }
 {
-    write_front(&mut block[0..8], header, records.len() as u8, place);
+    write_front(&mut block[0..FRONT], header, records.len() as u8, place);
     for (i, record) in records.iter().enumerate() {
-        let from = 8 + 26 * i;
-        write_record(&mut block[from..from + 26], record);
+        let from = FRONT + RECORD * i;
+        write_record(&mut block[from..from + RECORD], record);
     }
-    block[8 + 26 * records.len()..504].fill(0);
+    block[FRONT + RECORD * records.len()..BODY].fill(0);
     write_check(block);
 }

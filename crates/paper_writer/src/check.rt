@@ -11,6 +11,7 @@ use blocks::fault::BlockFault;
 use blocks::fault::BlockFromRecord;
 use blocks::fault::RecordFault;
 use paper::header::Header;
+use paper::layout::FULL;
 use paper::record::Record;
 
 fn check_records(records: &[Record], kind: u8) -> Result<(), RecordFault>
@@ -21,8 +22,8 @@ fn check_records(records: &[Record], kind: u8) -> Result<(), RecordFault>
     for (k, record) in records.iter().enumerate() {
         if !record.fits(kind) {
             return Err(RecordFault {
-                block: (k / 19) as u8,
-                record: (k % 19 + 1) as u8,
+                block: (k / FULL) as u8,
+                record: (k % FULL + 1) as u8,
             });
         }
     }

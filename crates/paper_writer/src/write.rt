@@ -11,16 +11,18 @@ use blocks::block::BLOCK;
 use paper::fault::PaperFault;
 use paper::fault::PaperFromBlock;
 use paper::header::Header;
+use paper::layout::FULL;
+use paper::layout::MOST_RECORDS;
 use paper::record::Record;
 
 fn write_blocks(buffer: &mut [u8], header: Header, records: &[Record])
     requires { ⌜ length (now buffer) ≡ 512 * blocks-for (length (now records)) ⌝ ∗ ⌜ length (now records) ≤ 1900 ⌝ }
     ensures { λ _. ⌜ now (buffer .exit) ≡ paper-bytes header (now (records .entry)) ⌝ }
 {
-    let blocks = (records.len() + 18) / 19;
+    let blocks = (records.len() + (FULL - 1)) / FULL;
     for i in 0..blocks {
-        let from = 19 * i;
-        let end = (from + 19).min(records.len());
+        let from = FULL * i;
+        let end = (from + FULL).min(records.len());
         let block = &mut buffer[BLOCK * i..BLOCK * i + BLOCK];
         write_block(block, header, i as u8, &records[from..end]);
     }
@@ -34,7 +36,7 @@ pub fn write_paper(header: Header, records: &[Record], buffer: &mut [u8]) -> Res
     ensures read_back { λ r. ⌜ (isOk r ≡ true → Read-back (now (buffer .exit)) header (now (records .entry))) ⌝ }
 {
     let count = records.len();
-    if count == 0 || count > 1900 || buffer.len() != BLOCK * ((count + 18) / 19) {
+    if count == 0 || count > MOST_RECORDS || buffer.len() != BLOCK * ((count + (FULL - 1)) / FULL) {
         return Err(PaperFault::Length);
     }
     check_contents(header, records)?;

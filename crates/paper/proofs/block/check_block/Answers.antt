@@ -1,9 +1,5 @@
-use mathlib.Core.Path.{_≡_, refl, ap, sym, _∙_}
-use mathlib.Core.Bool.{true, cond}
-use Prim.Native.Nat.{_≤_}
-use lib.ListN.{getD}
+use mathlib.Core.Path.{sym}
 use borrow.Author.Needs.{needs}
-use Rattle.std.specs.declared.result.Result.the-variants.{Err}
 use Rattle.std.proofs.shelf.Results.{err-from-errBy}
 use Rattle.paper.specs.Checks.{block-checked}
 use Rattle.paper.proofs.Fronts.{front-tells}

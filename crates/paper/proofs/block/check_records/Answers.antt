@@ -1,4 +1,4 @@
-use mathlib.Core.Path.{_≡_, sym, _∙_}
+use mathlib.Core.Path.{sym, _∙_}
 use Rattle.paper.proofs.Steps.{records-step, records-none, records-all}
 use Rattle.paper.proofs.block.check_records.Needs as need
 

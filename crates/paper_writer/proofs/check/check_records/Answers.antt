@@ -1,6 +1,4 @@
-use mathlib.Core.Path.{_≡_, sym, subst, _∙_}
-use lib.ListN.{take}
-use native.Mathlib.Omega.{arith}
+use mathlib.Core.Path.{sym, subst, _∙_}
 use Rattle.std.specs.shelf.Lists.{All}
 use Rattle.std.proofs.shelf.Elements.{all-more}
 use Rattle.std.proofs.shelf.Lists.{take-all}

@@ -1,4 +1,4 @@
-use mathlib.Core.Path.{_≡_, refl, ap, sym, _∙_}
+use mathlib.Core.Path.{refl}
 use native.Mathlib.Omega.{arith}
 use Rattle.paper_writer.proofs.Fills.{blocks-first, block-next, blocks-last}
 use Rattle.paper_writer.proofs.write.write_blocks.Needs as need
