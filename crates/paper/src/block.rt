@@ -4,7 +4,6 @@ ghost use Prim.Native.Nat.{_+_, _*_, _≤_, _<_};
 ghost use lib.ListN.{length, getD, drop};
 ghost use Rattle.blocks.specs.Pieces.{pieces};
 ghost use Rattle.paper.specs.Checks.{block-checked, count-fits, front-fits, part-fits, record-at, records-checked, zeros-checked};
-ghost use Rattle.paper.specs.Records.{is-code};
 use crate::header::Header;
 use crate::layout::FRONT;
 use crate::layout::FULL;
