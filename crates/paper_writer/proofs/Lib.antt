@@ -1,0 +1,4 @@
+mod Fills
+mod PaperReadBack
+mod ReadBack
+mod Refusals

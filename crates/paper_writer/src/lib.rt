@@ -1,0 +1,4 @@
+// The writer of papers.
+mod block;
+mod check;
+pub mod write;
