@@ -13,6 +13,13 @@ Meaning = List ℕ → ℕ → ℕ
 abbrev pub Ranged : Meaning → Type 0
 Ranged fingerprint = (key : List ℕ) (range : ℕ) → 1 ≤ range → fingerprint key range < range
 
+-- the numbers by which papers name the rules
+abbrev pub plain-number : ℕ
+plain-number = 1
+
+abbrev pub fnv-number : ℕ
+fnv-number = 2
+
 abbrev pub plain-rule : Meaning
 plain-rule key range = number (take 8 key) % range
 

@@ -1,7 +1,7 @@
 // Reads a paper from standard input and says what it makes of it.
-use paper::blocks::BLOCK;
-use paper::blocks::MOST_BLOCKS;
-use paper::blocks::count_blocks;
+use blocks::block::BLOCK;
+use blocks::block::MOST_BLOCKS;
+use paper::check::check_paper;
 use std::io;
 use std::io::Read;
 
@@ -16,14 +16,11 @@ fn read_paper(rt: &LibcRuntime) -> io::Result<Vec<u8>> {
 
 fn main(rt: LibcRuntime) -> io::Result<()> {
     let paper = read_paper(&rt)?;
-    match count_blocks(paper.as_slice()) {
-        Ok(1) => println!(
+    match check_paper(paper.as_slice()) {
+        Ok(header) => println!(
             rt,
-            "paper of 1 block: its length is right; its calls are not run yet"
-        ),
-        Ok(blocks) => println!(
-            rt,
-            "paper of {blocks} blocks: its length is right; its calls are not run yet"
+            "sound paper for a table of {} buckets; its calls are not run yet",
+            header.buckets
         ),
         Err(fault) => {
             let (number, block, record) = fault.figures();

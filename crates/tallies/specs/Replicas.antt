@@ -9,6 +9,10 @@ use Rattle.tallies.specs.Kinds.{Kind}
 abbrev pub replicas : ℕ → Replicas
 replicas n = record { 0 = n }
 
+-- the number by which papers name the kind
+abbrev pub replicas-number : ℕ
+replicas-number = 1
+
 abbrev pub most-replicas : ℕ
 most-replicas = 4294967295
 

@@ -9,6 +9,10 @@ use Rattle.tallies.specs.Kinds.{Kind}
 abbrev pub traffic : ℕ → ℕ → Traffic
 traffic packets octets = record { packets = packets; octets = octets }
 
+-- the number by which papers name the kind
+abbrev pub traffic-number : ℕ
+traffic-number = 2
+
 abbrev pub most-packets : ℕ
 most-packets = 4294967295
 
