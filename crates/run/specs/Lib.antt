@@ -1,0 +1,5 @@
+pub mod Called
+pub mod Faults
+pub mod Figures
+pub mod Lines
+pub mod Printed
