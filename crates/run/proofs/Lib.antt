@@ -1,2 +1,5 @@
-mod Calls
+mod Calling
+mod Papers
+mod Printing
+mod Running
 mod Written

@@ -3,3 +3,4 @@ pub mod Faults
 pub mod Figures
 pub mod Lines
 pub mod Printed
+pub mod Runs

@@ -2,7 +2,7 @@ use mathlib.Core.Path.{_≡_, sym, ap, subst, _∙_}
 use Prim.Native.Nat.{_^_, _<_}
 use native.Mathlib.Omega.{arith}
 use Rattle.table.specs.Requests.{asked}
-use Rattle.run.proofs.Calls.{called}
+use Rattle.run.proofs.Calling.{called}
 use Rattle.run.proofs.call.call_line.Needs as need
 
 pub returns : need.returns

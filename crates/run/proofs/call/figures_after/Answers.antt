@@ -7,7 +7,7 @@ use Rattle.book.specs.declared.answer.Answer.{Answer}
 use Rattle.book.specs.declared.answer.Answer.the-variants.{Held}
 use Rattle.book.specs.Books.{answer, look-up}
 use Rattle.paper.specs.Records.{takes-key}
-use Rattle.run.proofs.Calls.{found}
+use Rattle.run.proofs.Calling.{found}
 use Rattle.run.proofs.call.figures_after.Needs as need
 
 pub returns-in-Ok-Some : need.returns-in-Ok-Some
