@@ -40,8 +40,7 @@ module _ {V : Type 0} (k : Kind V) (rule : Meaning) (shown : V → ℕ × ℕ) (
       let entry = b .entries (fingerprint rule b (r .key)) in
       let short : too-long (r .key) ≡ false = le-ltb 64 (length (r .key)) (omega arith) in
       let holds : Some v ≡ entry = held-same (Some v) entry (looked ∙ ap (λ x. check b x LongKey (record { answer = Held entry; book = b }) .answer) short) in
-      let low = small v (keeps .values (fingerprint rule b (r .key)) v (sym holds)) in
-      (
+      let low = small v (keeps .values (fingerprint rule b (r .key)) v (sym holds)) in (
         is ∙ ap (figures-held shown) holds ∙ sym (ap (λ x. cond x (figures-held shown entry) (b .size .rows, holding b)) keyed),
         subst (λ n. n ≤ 1000000000000000) (sym (ap (λ (p : ℕ × ℕ). p .1) is)) low,
       )

@@ -55,8 +55,7 @@ module _ {V : Type 0} (k : Kind V) (rule : Meaning) (shown : V → ℕ × ℕ) (
   unfolding lines
   step b place r [] left first others = let z : _≡_ {A = ℕ} 0 1 = cc in absurd (omega arith)
   step b place r (s ∷ rs) left first others =
-      let same : s ≡ r = cc in
-      (
+      let same : s ≡ r = cc in (
         (λ i. call-line k rule shown made b place (same i) ++ lines k rule shown made (after k rule b (call-for made (same i))) (place + 1) (sym others i)),
         omega (arith, ap length others),
       )

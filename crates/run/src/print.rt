@@ -40,12 +40,7 @@ pub fn print_paper(paper: &[u8], out: &mut [u8]) -> Result<usize, RunFault>
         Err(RunFault::Room) => Err(RunFault::Room),
         Err(RunFault::InPaper(fault)) => {
             let (number, block, record) = fault.figures();
-            Ok(write_fault(
-                out,
-                u64::from(number),
-                u64::from(block),
-                u64::from(record),
-            ))
+            Ok(write_fault(out, u64::from(number), u64::from(block), u64::from(record)))
         }
     }
 }

@@ -19,8 +19,7 @@ pub loop-record-holds : need.loop-record-holds
 loop-record-holds g c =
     let k = g .T·Tally .kind in
     let t = c .open-table .result in
-    let fresh = c .open-table .ensures .fresh (c .pre .seats) in
-    (
+    let fresh = c .open-table .ensures .fresh (c .pre .seats) in (
       going-first k (g .R·Rule .meaning (c .args .rule .now)) (g .T·Figured .shown) (g .T·Figured .made) t (size (t .shape)) (paper-records (c .args .paper .now)) _ (c .args .out .now)
           (fresh-keeps k t fresh) (c .new-reader .ensures) (paper-few (c .args .paper .now) (c .pre .sound)),
       refl,
@@ -47,8 +46,7 @@ add-place-in-Some g c = let few = c .loop-record .inv .0 .few in omega arith
 
 pub loop-record-again : need.loop-record-again
 loop-record-again g c =
-    let going = c .loop-record .inv .0 in
-    (
+    let going = c .loop-record .inv .0 in (
       going-on (g .T·Tally .kind) (g .R·Rule .meaning (c .args .rule .now)) (g .T·Figured .shown) (g .T·Figured .made) going (c .in-Some .record) (sym (c .in-Some .ensures tt .gives)) (c .in-Some .ensures tt .leaves)
           (c .call-line-line .result) (c .call-line-line .last .table) (c .write-line-at .last .out) (c .write-line-at .result) (c .call-line-line .ensures (going .book) (going .keeps))
           (omega arith) (omega arith) (c .write-line-at .ensures .next) (c .write-line-at .ensures .after),
