@@ -1,9 +1,11 @@
-// Reads a paper from standard input and says what it makes of it.
+// Reads a paper from standard input, runs it, and prints a line for each of its calls, or the line of its fault.
 use blocks::block::BLOCK;
 use blocks::block::MOST_BLOCKS;
-use paper::check::check_paper;
+use run::print::MOST_PRINTED;
+use run::print::print_paper;
 use std::io;
 use std::io::Read;
+use std::io::Write;
 
 // One byte more than the longest paper: what fills it is too long already, and the rest need not be read.
 const MOST_READ: u64 = (MOST_BLOCKS * BLOCK + 1) as u64;
@@ -16,15 +18,12 @@ fn read_paper(rt: &LibcRuntime) -> io::Result<Vec<u8>> {
 
 fn main(rt: LibcRuntime) -> io::Result<()> {
     let paper = read_paper(&rt)?;
-    match check_paper(paper.as_slice()) {
-        Ok(header) => println!(
-            rt,
-            "sound paper for a table of {} buckets; its calls are not run yet",
-            header.buckets
-        ),
-        Err(fault) => {
-            let (number, block, record) = fault.figures();
-            println!(rt, "F {number} {block} {record}")
+    let mut out = vec![in rt.alloc(); 0; MOST_PRINTED]?;
+    match print_paper(paper.as_slice(), out.as_mut_slice()) {
+        Ok(n) => {
+            out.truncate(n);
+            rt.stdout().write_all(out.as_slice())
         }
+        Err(_) => Err(io::Error::from(io::ErrorKind::Other)),
     }
 }

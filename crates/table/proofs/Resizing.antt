@@ -13,6 +13,7 @@ use Rattle.seats.specs.declared.refusal.Refusal.the-variants.{RowLimit}
 use Rattle.seats.specs.Shapes.{Size, size, with-rows}
 use Rattle.seats.specs.Seats.{Shows, at, vacant}
 use Rattle.narrowing.proofs.Resized.{shows-resized}
+use Rattle.book.specs.declared.answer.Rows.{Rows}
 use Rattle.book.specs.declared.answer.Answer.the-variants.{Sized}
 use Rattle.book.specs.Books.{Book, Turn, widen, check, turn, resize, resized}
 use Rattle.table.specs.declared.table.Table.{Table}
@@ -53,14 +54,14 @@ module _ {V : Type 0} (k : Kind V) (rule : Meaning) (t : Table V) where
   most-are : (b : Book V) → Keeps k t b → b .size .most ≡ t .shape .most
   most-are b keeps = ap (λ (z : Size). z .most) (keeps .sized)
 
-  pub widened : (u : Table V) → t .shape .rows < t .shape .most → now (u .seats) ≡ now (t .seats) → u .shape .buckets ≡ t .shape .buckets → u .shape .most ≡ t .shape .most →
-      u .shape .rows ≡ t .shape .rows + 1 → u .held ≡ t .held → name (u .seats) ≡ name (t .seats) → Did k rule t widen (Sized (record { rows = u .shape .rows; held = u .held })) u
-  widened u room seats buckets most more count lent =
+  pub widened : (u : Table V) (n : Rows) → n ≡ record { rows = u .shape .rows; held = u .held } → t .shape .rows < t .shape .most → now (u .seats) ≡ now (t .seats) → u .shape .buckets ≡ t .shape .buckets → u .shape .most ≡ t .shape .most →
+      u .shape .rows ≡ t .shape .rows + 1 → u .held ≡ t .held → name (u .seats) ≡ name (t .seats) → Did k rule t widen (Sized n) u
+  widened u n is room seats buckets most more count lent =
       let rows : (b : Book V) → Keeps k t b → u .shape .rows ≡ b .size .rows + 1 = λ b keeps. more ∙ ap (λ n. n + 1) (sym (rows-are b keeps)) in
       let turns : (b : Book V) → Keeps k t b → turn k rule b widen ≡ resized (resize b (b .size .rows + 1)) = λ b keeps.
       widens b (ltb (b .size .rows) (b .size .most)) (lt-ltb (b .size .rows) (b .size .most) (omega (arith, rows-are b keeps, most-are b keeps))) in
       record {
-        answers = λ b keeps. same-answer k t u buckets most count b (b .size .rows + 1) keeps (rows b keeps) ∙ sym (ap (λ (x : Turn V). x .answer) (turns b keeps));
+        answers = λ b keeps. ap Sized is ∙ same-answer k t u buckets most count b (b .size .rows + 1) keeps (rows b keeps) ∙ sym (ap (λ (x : Turn V). x .answer) (turns b keeps));
         keeps = λ b keeps.
             subst (λ (x : Turn V). Keeps k u (x .book)) (sym (turns b keeps))
             (subst (λ n. Keeps k u (resize b n)) (rows b keeps)

@@ -1,4 +1,5 @@
-// Widening and narrowing.
+// Widening and narrowing, and the rows in use.
+ghost use mathlib.Core.Path.{_≡_};
 ghost use lib.ListN.{length};
 ghost use Rattle.rules.specs.Rules.{Meaning};
 ghost use Rattle.book.specs.Answers.{of-rows};
@@ -11,6 +12,16 @@ use seats::refusal::Refusal;
 use tallies::tally::Tally;
 
 impl<T: Tally + Copy> Table<'_, T> {
+    // The rows in use, and how many fingerprints are held.
+    pub fn size(&self) -> Rows
+        ensures { λ r. ⌜ r ≡ record { rows = now (self .entry) .shape .rows; held = now (self .entry) .held } ⌝ }
+    {
+        Rows {
+            rows: self.shape.rows,
+            held: self.held,
+        }
+    }
+
     // Takes one row more into use.
     pub fn widen(&mut self) -> Result<Rows, Refusal>
         ensures { λ r. ⌜ ((rule : Meaning) → Did (T·Tally .kind) rule (now (self .entry)) widening (of-rows r) (now (self .exit))) ⌝ }
@@ -19,10 +30,7 @@ impl<T: Tally + Copy> Table<'_, T> {
             return Err(Refusal::RowLimit);
         }
         self.shape.rows += 1;
-        Ok(Rows {
-            rows: self.shape.rows,
-            held: self.held,
-        })
+        Ok(self.size())
     }
 
     // Takes one row out of use. The entries of that row move to the rows below.

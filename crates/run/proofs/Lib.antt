@@ -1,0 +1,5 @@
+mod Calling
+mod Papers
+mod Printing
+mod Running
+mod Written
