@@ -24,6 +24,7 @@ use Rattle.paper.specs.declared.«record».Record.{Record}
 use Rattle.paper.proofs.BlocksBack.{block-back, length-block-records}
 use Rattle.paper.proofs.Sound.{blocks-tell, paper-tells}
 
+
 blocks-back : (first : Header) (i : ℕ) (bs : List (List ℕ)) (h : Header) → All (λ b. length b ≡ 512) bs → All Bytes bs → blocks-checked first i bs ≡ Ok h →
     (blocks-bytes first i (map block-records bs) ≡ bs) × (first ≡ h)
 blocks-back first i [] h long each sound = (refl, cc)
@@ -70,7 +71,7 @@ paper-back paper h each sound =
     let back = blocks-back (header-of paper) 0 bs h (pieces-even 512 n paper (omega arith)) (pieces-bytes 512 n paper each) (p .1) in
     let full = blocks-full (header-of paper) 0 bs h (p .1) in
     let groups : pieces 19 (blocks-for (length (paper-records paper))) (paper-records paper) ≡ map block-records bs =
-    ap (λ rs. pieces 19 (blocks-for (length rs)) rs) (joined-map bs) ∙ regrouped (map block-records bs) full in
+      ap (λ rs. pieces 19 (blocks-for (length rs)) rs) (joined-map bs) ∙ regrouped (map block-records bs) full in
     (λ k. joined (λ b. b) (blocks-bytes (sym (back .1) k) 0 (groups k)))
     ∙ ap (joined (λ b. b)) (back .0)
     ∙ joined-pieces 512 n paper

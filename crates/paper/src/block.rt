@@ -16,11 +16,7 @@ use blocks::fault::RecordFault;
 fn count_fits(last: bool, count: u8) -> bool
     ensures { λ r. ⌜ r ≡ count-fits last count ⌝ }
 {
-    if last {
-        count >= 1 && count <= 19
-    } else {
-        count == 19
-    }
+    if last { count >= 1 && count <= 19 } else { count == 19 }
 }
 
 fn front_fits(block: &[u8], first: Header, place: u8, last: bool) -> bool
@@ -60,11 +56,7 @@ fn record_at(byte: usize) -> u8
     requires { ⌜ byte < 504 ⌝ }
     ensures { λ r. ⌜ r ≡ record-at byte ⌝ }
 {
-    if byte < 502 {
-        (byte.saturating_sub(8) / 26 + 1) as u8
-    } else {
-        0
-    }
+    if byte < 502 { (byte.saturating_sub(8) / 26 + 1) as u8 } else { 0 }
 }
 
 // The bytes behind the records, up to the check, are zero.
