@@ -2,6 +2,7 @@
 use mathlib.Core.Path.{_≡_}
 use mathlib.Core.List.{List}
 use Prim.Native.Nat.{ℕ, min}
+use lib.ListN.{length, drop}
 use denote.Ref.{now}
 use Rattle.book.specs.declared.answer.Answer.{Answer}
 use Rattle.book.specs.Books.{Call, post, reverse, erase, look-up, widen, narrow}
@@ -18,11 +19,15 @@ asked lent (LookUp key) = look-up (now key)
 asked lent Widen = widen
 asked lent (Narrow words) = narrow (min lent words)
 
--- only a post or a narrowing that passes the first checks uses the work words
+-- the work words past the first n are as they were
+abbrev pub SparesPast : ℕ → List ℕ → List ℕ → Type 0
+SparesPast n words words′ = drop n words′ ≡ drop n words
+
+-- only a post or a narrowing that passes the first checks uses the work words, and of them only those that go with it
 abbrev pub WordsAfter : {V : Type 0} → Request V → Answer V → List ℕ → List ℕ → Type 0
-WordsAfter (Post _ _ _) a words words′ = SparesWords a words words′
+WordsAfter (Post _ _ n) a words words′ = SparesWords a words words′ × SparesPast (min (length words) n) words words′
 WordsAfter (Reverse _ _) a words words′ = words′ ≡ words
 WordsAfter (Erase _) a words words′ = words′ ≡ words
 WordsAfter (LookUp _) a words words′ = words′ ≡ words
 WordsAfter Widen a words words′ = words′ ≡ words
-WordsAfter (Narrow _) a words words′ = SparesWords a words words′
+WordsAfter (Narrow n) a words words′ = SparesWords a words words′ × SparesPast (min (length words) n) words words′
