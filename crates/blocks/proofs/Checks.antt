@@ -37,7 +37,7 @@ unfolding with-check check-holds
 check-read-back body long =
     let check = bytes-of 8 (fnv-1a body) in
     let sum : number (take 8 (drop 504 (body ++ check))) ≡ fnv-1a body =
-      ap (λ l. number (take 8 l)) (drop-at body check 504 long) ∙ number-back 8 (fnv-1a body) (fnv-below body 14695981039346656037 (omega arith)) in
+    ap (λ l. number (take 8 l)) (drop-at body check 504 long) ∙ number-back 8 (fnv-1a body) (fnv-below body 14695981039346656037 (omega arith)) in
     eq-eqb _ _ (ap fnv-1a (take-at body check 504 long) ∙ sym sum)
 
 -- where it holds, the same is written

@@ -45,9 +45,9 @@ front-back : (block : List ℕ) → 8 ≤ length block → Bytes block → heade
 front-back block long each =
     let step : (k : ℕ) → k < 8 → drop k block ≡ getD block k 0 ∷ drop (k + 1) block = λ k small. drop-more block k 0 (omega arith) in
     let rest : drop 2 block ≡ getD block 2 0 ∷ getD block 3 0 ∷ getD block 4 0 ∷ getD block 5 0 ∷ getD block 6 0 ∷ getD block 7 0 ∷ drop 8 block =
-      step 2 (omega arith) ∙ ap (λ l. getD block 2 0 ∷ l) (step 3 (omega arith)
-      ∙ ap (λ l. getD block 3 0 ∷ l) (step 4 (omega arith) ∙ ap (λ l. getD block 4 0 ∷ l) (step 5 (omega arith)
-      ∙ ap (λ l. getD block 5 0 ∷ l) (step 6 (omega arith) ∙ ap (λ l. getD block 6 0 ∷ l) (step 7 (omega arith)))))) in
+    step 2 (omega arith) ∙ ap (λ l. getD block 2 0 ∷ l) (step 3 (omega arith)
+    ∙ ap (λ l. getD block 3 0 ∷ l) (step 4 (omega arith) ∙ ap (λ l. getD block 4 0 ∷ l) (step 5 (omega arith)
+    ∙ ap (λ l. getD block 5 0 ∷ l) (step 6 (omega arith) ∙ ap (λ l. getD block 6 0 ∷ l) (step 7 (omega arith)))))) in
     ap (λ l. l ++ (getD block 2 0 ∷ getD block 3 0 ∷ getD block 4 0 ∷ getD block 5 0 ∷ getD block 6 0 ∷ getD block 7 0 ∷ [])) (part-back block 0 2 (omega arith) each)
     ∙ ap (λ l. take 2 block ++ take 6 l) (sym rest)
     ∙ sym (take-add 2 6 block)
@@ -89,14 +89,14 @@ block-back first place last block long each sound =
     let count : length recs ≡ n = length-block-records block in
     let head : header-bytes (header-of block) ≡ header-bytes first = ap header-bytes (header-same (header-of block) first (sound .front .same)) in
     let written : joined record-bytes recs ≡ take (26 * n) (drop 8 block) =
-      records-back _ place 0 parts (pieces-even 26 n (drop 8 block) room) (pieces-bytes 26 n (drop 8 block) (drop-bytes block 8 each)) (sound .records)
-      ∙ joined-pieces 26 n (drop 8 block) in
+    records-back _ place 0 parts (pieces-even 26 n (drop 8 block) room) (pieces-bytes 26 n (drop 8 block) (drop-bytes block 8 each)) (sound .records)
+    ∙ joined-pieces 26 n (drop 8 block) in
     let tail = take (504 - (8 + 26 * n)) (drop (8 + 26 * n) block) in
     let lz : length tail ≡ 496 - 26 * length recs = length-take (504 - (8 + 26 * n)) (drop (8 + 26 * n) block) ∙ omega (arith, length-drop (8 + 26 * n) block) in
     let zeros : replicate (496 - 26 * length recs) 0 ≡ tail = ap (λ k. replicate k 0) (sym lz) ∙ sym (zeros-back tail 0 (stray-none place (8 + 26 * n) _ (sound .zeros))) in
     let body : block-body first place recs ≡ take 504 block =
-      (λ i. sym head i ++ (count i ∷ sym (sound .front .placed) i ∷ (written i ++ zeros i)))
-      ∙ sym (append-assoc (header-bytes (header-of block)) (n ∷ getD block 7 0 ∷ []) _)
-      ∙ ap (λ l. l ++ (take (26 * n) (drop 8 block) ++ tail)) (front-back block (omega arith) each)
-      ∙ whole-body block n few in
+    (λ i. sym head i ++ (count i ∷ sym (sound .front .placed) i ∷ (written i ++ zeros i)))
+    ∙ sym (append-assoc (header-bytes (header-of block)) (n ∷ getD block 7 0 ∷ []) _)
+    ∙ ap (λ l. l ++ (take (26 * n) (drop 8 block) ++ tail)) (front-back block (omega arith) each)
+    ∙ whole-body block n few in
     ap with-check body ∙ check-written-back block long each (sound .holds)

@@ -1,8 +1,8 @@
 mod Nonzeros
-pub mod Fronts
-pub mod BlocksBack
+mod Fronts
+mod BlocksBack
 mod PapersBack
 mod RecordsBack
-pub mod Sound
+mod Sound
 mod Steps
 mod ToCome

@@ -73,9 +73,9 @@ sound-counted paper j sound =
     let r = and-parts (leb (length paper) 51200) _ (q .1) in
     let even = eqb-true (length paper % 512) 0 (r .1) in
     let at : j < n → getD (getD (blocks-in paper) j []) 6 0 ≡ getD paper (512 * j + 6) 0 =
-      λ inside. ap (λ b. getD b 6 0) (getD-pieces 512 j n paper inside) ∙ getD-take 512 (drop (512 * j) paper) 6 0 (omega arith) ∙ getD-drop (512 * j) paper 6 0 in
+    λ inside. ap (λ b. getD b 6 0) (getD-pieces 512 j n paper inside) ∙ getD-take 512 (drop (512 * j) paper) 6 0 (omega arith) ∙ getD-drop (512 * j) paper 6 0 in
     let both : j < n → (1 ≤ getD (getD (blocks-in paper) j []) 6 0) × (getD (getD (blocks-in paper) j []) 6 0 ≤ 19) =
-      λ inside. counts (header-of paper) 0 (blocks-in paper) (o .0) (p .1) j (omega (arith, length-pieces 512 n paper)) in
+    λ inside. counts (header-of paper) 0 (blocks-in paper) (o .0) (p .1) j (omega (arith, length-pieces 512 n paper)) in
     record {
       whole = omega arith;
       short = leb-true (length paper) 51200 (r .0);

@@ -34,7 +34,7 @@ records-step kind place block n i k fits inside same is =
     let width : 8 + 26 * k + 26 - (8 + 26 * k) ≡ 26 = omega arith in
     let from : 8 + 26 * k ≡ 8 + 26 * i = omega arith in
     let here : take 26 (drop (26 * i) (drop 8 block)) ≡ take (8 + 26 * k + 26 - (8 + 26 * k)) (drop (8 + 26 * k) block) =
-      ap (take 26) (drop-drop (26 * i) 8 block) ∙ λ j. take (sym width j) (drop (sym from j) block) in
+    ap (take 26) (drop-drop (26 * i) 8 block) ∙ λ j. take (sym width j) (drop (sym from j) block) in
     ap (records-checked kind place i) (pieces-more 26 i n (drop 8 block) inside)
     ∙ ap (λ t. cond t (records-checked kind place (suc i) (pieces 26 (n - (i + 1)) (drop (26 * (i + 1)) (drop 8 block)))) (Err (record { block = place; «record» = i + 1 }))) (ap (part-fits kind) here ∙ is)
     ∙ ap (λ j. cond fits (records-checked kind place j (pieces 26 (n - (i + 1)) (drop (26 * (i + 1)) (drop 8 block)))) (Err (record { block = place; «record» = i + 1 }))) (sym (add-one i))

@@ -61,10 +61,10 @@ come-one paper j i n low count inside few =
     let long = length-pieces 26 (getD block 6 0) (drop 8 block) in
     let d = record-of [] in
     let same : getD (map record-of parts) i d ≡ cut paper j i =
-      getD-map record-of parts i [] d (omega arith)
-      ∙ ap record-of (getD-pieces 26 i (getD block 6 0) (drop 8 block) (omega arith))
-      ∙ ap (λ b. record-of (take 26 (drop (26 * i) (drop 8 b)))) (getD-pieces 512 j (length paper / 512) paper low)
-      ∙ cut-is paper j i (omega arith) in
+    getD-map record-of parts i [] d (omega arith)
+    ∙ ap record-of (getD-pieces 26 i (getD block 6 0) (drop 8 block) (omega arith))
+    ∙ ap (λ b. record-of (take 26 (drop (26 * i) (drop 8 b)))) (getD-pieces 512 j (length paper / 512) paper low)
+    ∙ cut-is paper j i (omega arith) in
     ap (λ l. l ++ joined block-records (drop (j + 1) (blocks-in paper)))
     (drop-more (map record-of parts) i d (omega (arith, length-map parts record-of)) ∙ ap (λ r. r ∷ drop (i + 1) (map record-of parts)) same)
 

@@ -35,16 +35,16 @@ pub returns-in-Break-check-block : need.returns-in-Break-check-block
 returns-in-Break-check-block c =
     let p = err-from-errBy (c .from-residual .result) (c .from-residual .ensures .1) in
     let a =
-      answers (c .args .paper .now) (c .from-residual .result) (λ i. c .typed .paper i .fits)
-      (p .1 ∙ ap Err (p .2)
-      ∙ sym (blocks-step _ _ _ _ _ (c .loop-i-test .taken) (sym (c .in-Break-check-block .ensures tt)))
-      ∙ c .loop-i .inv ∙ paper-blocks _ _ _ (c .in-Some .ensures tt) (c .read-header .ensures)) in
+    answers (c .args .paper .now) (c .from-residual .result) (λ i. c .typed .paper i .fits)
+    (p .1 ∙ ap Err (p .2)
+    ∙ sym (blocks-step _ _ _ _ _ (c .loop-i-test .taken) (sym (c .in-Break-check-block .ensures tt)))
+    ∙ c .loop-i .inv ∙ paper-blocks _ _ _ (c .in-Some .ensures tt) (c .read-header .ensures)) in
     record { answer = a .0; written-back = a .1 }
 
 pub returns : need.returns
 returns c =
     let a =
-      answers (c .args .paper .now) _ (λ i. c .typed .paper i .fits)
-      (sym (blocks-none _ (c .args .paper .now) _ _ (c .loop-i-test .left))
-      ∙ c .loop-i .inv ∙ paper-blocks _ _ _ (c .in-Some .ensures tt) (c .read-header .ensures)) in
+    answers (c .args .paper .now) _ (λ i. c .typed .paper i .fits)
+    (sym (blocks-none _ (c .args .paper .now) _ _ (c .loop-i-test .left))
+    ∙ c .loop-i .inv ∙ paper-blocks _ _ _ (c .in-Some .ensures tt) (c .read-header .ensures)) in
     record { answer = a .0; written-back = a .1 }
