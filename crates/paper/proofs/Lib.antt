@@ -1,8 +1,8 @@
 mod Nonzeros
-mod Fronts
-mod BlocksBack
+pub mod Fronts
+pub mod BlocksBack
 mod PapersBack
 mod RecordsBack
-mod Sound
+pub mod Sound
 mod Steps
 mod ToCome
