@@ -32,7 +32,7 @@ abbrev pub bar : {X : Type 0} → Kind X → List (Seat X) → Size → X → �
 bar k before z tally words = barred z (length before) words (k .is-empty tally)
 
 -- the entry is in: whatever the seats showed without f, they show with it; the rows not in use are as they were; and where a
--- bucket of f had a free seat, the entry took the first and nothing else changed
+-- bucket of f had a free seat, the entry took one, the quotient's bucket before the remainder's, and nothing else changed
 pub record Accepted {X : Type 0} (e : X) (before after : List (Seat X)) (z : Size) (f : ℕ) (tally : X) : Type 0 where
   pub below : f < z .range
   pub shows : (entries : ℕ → Option X) → Shows e before z entries → entries f ≡ None → Shows e after z (changed entries f (Some tally))

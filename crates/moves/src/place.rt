@@ -16,7 +16,7 @@ use seats::seat::Seat;
 use seats::shape::Shape;
 use tallies::tally::Tally;
 
-// The first free seat of the fingerprint's own buckets, the quotient's before the remainder's.
+// A free seat of the fingerprint's own buckets, the quotient's before the remainder's.
 fn own_seat<T: Tally + Copy>(seats: &[Seat<T>], shape: Shape, fingerprint: u32) -> Option<usize>
     ensures { λ r. ⌜ Cases r
         (Crowded (T·Tally .kind .empty) (now (seats .entry)) (size shape) fingerprint)

@@ -1,4 +1,4 @@
-// Finding a seat: the one that holds a fingerprint, or the first empty one of a bucket.
+// Finding a seat: the one that holds a fingerprint, or an empty one of a bucket.
 ghost use Prim.Native.Nat.{ℕ, _+_, _*_, _<_};
 ghost use Rattle.std.specs.Options.{Cases};
 ghost use Rattle.std.specs.Orderings.{Decides};
@@ -59,7 +59,7 @@ fn is_free<T: Tally + Copy>(seats: &[Seat<T>], i: usize) -> bool
     seats[i].tally.is_empty()
 }
 
-// The first empty seat among the rows in use of a bucket.
+// An empty seat among the rows in use of a bucket, if there is one.
 pub fn free_seat<T: Tally + Copy>(seats: &[Seat<T>], shape: Shape, bucket: u32) -> Option<usize>
     ensures { λ r. ⌜ Cases r
         ((i : ℕ) → Lies (size shape) bucket i → Free (T·Tally .kind .empty) (now (seats .entry)) i → ⊥)
