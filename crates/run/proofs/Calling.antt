@@ -1,15 +1,13 @@
 -- One call of a run: its figures and its line, held against the book. Assumes nothing.
-use mathlib.Core.Path.{_≡_, refl, sym, ap, subst, _∙_}
-use mathlib.Core.Bool.{Bool, true, false, cond}
-use mathlib.Core.List.{List}
-use Prim.Native.Nat.{ℕ, _+_, _^_, _<_, _≤_}
+use mathlib.Core.Path.{_≡_, sym, ap, subst, _∙_}
+use mathlib.Core.Bool.{true, false, cond}
+use Prim.Native.Nat.{ℕ, _^_, _<_, _≤_}
 use native.Mathlib.Omega.{arith}
-use lib.Dec.{ltb}
 use lib.ListN.{length}
 use Rattle.std.proofs.shelf.Tests.{le-ltb}
 use Rattle.std.proofs.shelf.Decimals.{length-decimal-le}
 use Rattle.std.specs.declared.option.Option.{Option}
-use Rattle.std.specs.declared.option.Option.the-variants.{Some, None}
+use Rattle.std.specs.declared.option.Option.the-variants.{Some}
 use Rattle.tallies.specs.Kinds.{Kind}
 use Rattle.rules.specs.Rules.{Meaning}
 use Rattle.seats.specs.declared.refusal.Refusal.{Refusal}
@@ -23,7 +21,6 @@ use Rattle.table.specs.declared.table.Table.{Table}
 use Rattle.table.specs.Tables.{Keeps, Did}
 use Rattle.paper.specs.declared.«record».Record.{Record}
 use Rattle.paper.specs.Records.{takes-key}
-use Rattle.run.specs.declared.lines.Line.{Line}
 use Rattle.run.specs.Lines.{line}
 use Rattle.run.specs.Printed.{call-for, call-line, figures-held, figures-after}
 use Rattle.run.specs.Called.{Called}

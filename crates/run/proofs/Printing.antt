@@ -2,9 +2,8 @@
 use mathlib.Core.Path.{_≡_, refl, sym, ap, _∙_}
 use mathlib.Core.Bool.{Bool, true, false, cond}
 use mathlib.Core.List.{List}
-use Prim.Native.Nat.{ℕ, _+_, _<_, _≤_}
+use Prim.Native.Nat.{ℕ, _<_, _≤_}
 use native.Mathlib.Omega.{arith}
-use lib.Dec.{ltb}
 use lib.ListN.{length}
 use Rattle.std.specs.declared.result.Result.{Result}
 use Rattle.std.specs.declared.result.Result.the-variants.{Ok, Err}
@@ -13,12 +12,11 @@ use Rattle.numbers.specs.Buffers.{put}
 use Rattle.paper.specs.declared.header.Header.{Header}
 use Rattle.paper.specs.declared.fault.PaperFault.{PaperFault}
 use Rattle.paper.specs.Checks.{paper-checked}
-use Rattle.paper.specs.Faults.{figures-of}
 use Rattle.paper.specs.Reading.{paper-records}
 use Rattle.run.specs.declared.fault.RunFault.{RunFault}
 use Rattle.run.specs.declared.fault.RunFault.the-variants.{Room, InPaper}
 use Rattle.run.specs.Lines.{fault-line}
-use Rattle.run.specs.Printed.{all-lines, printed, printed-as}
+use Rattle.run.specs.Printed.{printed, printed-as}
 use Rattle.run.specs.Runs.{lifted}
 use Rattle.run.proofs.Written.{figure-long, fault-long}
 

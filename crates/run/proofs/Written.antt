@@ -1,11 +1,10 @@
 -- Lines written figure by figure, and how long they are. Assumes nothing.
-use mathlib.Core.Path.{_≡_, refl, ap, sym, _∙_}
+use mathlib.Core.Path.{_≡_, ap, _∙_}
 use mathlib.Core.List.{List, [], _∷_, _++_}
-use Prim.Native.Nat.{ℕ, _+_, _^_, _<_, _≤_}
+use Prim.Native.Nat.{ℕ, _+_, _≤_}
 use native.Mathlib.Omega.{arith}
 use lib.ListN.{length, length-append}
 use Rattle.std.specs.Written.{decimal}
-use Rattle.std.proofs.shelf.Decimals.{length-decimal-le}
 use Rattle.numbers.specs.Buffers.{put}
 use Rattle.numbers.proofs.Puts.{put-put}
 use Rattle.run.specs.Lines.{figure, line, fault-line}

@@ -1,5 +1,4 @@
-use mathlib.Core.Path.{_≡_, refl, sym, ap, subst, _∙_}
-use Prim.Native.Nat.{_+_, _<_, _≤_}
+use mathlib.Core.Path.{_≡_, refl, sym, ap, _∙_}
 use native.Mathlib.Omega.{arith}
 use borrow.Author.Needs.{needs}
 use lib.ListN.{length}
@@ -10,7 +9,7 @@ use Rattle.book.specs.Books.{blank}
 use Rattle.numbers.specs.Buffers.{put}
 use Rattle.paper.specs.Reading.{paper-records, first-of, to-come}
 use Rattle.replay.proofs.Accounts.{fresh-keeps}
-use Rattle.run.specs.Printed.{lines, lent}
+use Rattle.run.specs.Printed.{lines}
 use Rattle.run.proofs.Papers.{paper-few}
 use Rattle.run.proofs.Running.{going-first, going-on, gone, room}
 use Rattle.run.proofs.calls.write_lines.Needs as need

@@ -2,7 +2,7 @@ use mathlib.Core.Path.{_≡_, refl}
 use mathlib.Core.List.{List, [], _∷_, _++_}
 use Prim.Native.Nat.{ℕ}
 use native.Mathlib.Omega.{arith}
-use lib.ListN.{length, length-append, set, length-set}
+use lib.ListN.{length-append, set, length-set}
 use Rattle.numbers.specs.Buffers.{put}
 use Rattle.numbers.proofs.Puts.{put-byte}
 use Rattle.run.specs.Lines.{figure, fault-line}

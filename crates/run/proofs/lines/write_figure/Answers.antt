@@ -1,8 +1,5 @@
 use native.Mathlib.Omega.{arith}
-use mathlib.Core.Path.{ap}
 use mathlib.Core.List.{[], _∷_}
-use borrow.Author.Needs.{needs}
-use lib.ListN.{length}
 use Rattle.std.specs.Written.{decimal}
 use Rattle.numbers.proofs.Puts.{put-byte}
 use Rattle.run.specs.Lines.{figure}

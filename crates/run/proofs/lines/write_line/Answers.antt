@@ -1,6 +1,6 @@
 use mathlib.Core.List.{_++_}
 use native.Mathlib.Omega.{arith}
-use lib.ListN.{length, length-append}
+use lib.ListN.{length-append}
 use Rattle.run.specs.Lines.{figure, line}
 use Rattle.run.proofs.Written.{line-long, put-on}
 use Rattle.run.proofs.lines.write_line.Needs as need
