@@ -4,7 +4,18 @@ use numbers::fnv::fnv1a;
 use std::error::AnyError;
 
 const TEXTS: [&str; 12] = [
-    "", "a", "b", "c", "d", "e", "f", "fo", "foo", "foob", "fooba", "foobar",
+    "",
+    "a",
+    "b",
+    "c",
+    "d",
+    "e",
+    "f",
+    "fo",
+    "foo",
+    "foob",
+    "fooba",
+    "foobar",
 ];
 
 const NUMBERS: [u64; 12] = [

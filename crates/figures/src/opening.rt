@@ -32,13 +32,48 @@ fn key_number(key: &[u8]) -> Result<u64, AnyError> {
 }
 
 pub fn tell_all(rt: &LibcRuntime) -> Result<(), AnyError> {
-    tell_number(rt, "opening 1 bucket", 1, number_of(Shape::check(1, 1, 1, 1)))?;
-    tell_number(rt, "opening 2 buckets", 0, number_of(Shape::check(2, 1, 1, 2)))?;
-    tell_number(rt, "opening 4096 buckets", 0, number_of(Shape::check(4096, 1, 1, 4096)))?;
-    tell_number(rt, "opening 4097 buckets", 1, number_of(Shape::check(4097, 1, 1, 4097)))?;
-    tell_number(rt, "opening 9 rows", 2, number_of(Shape::check(2, 9, 1, 18)))?;
-    tell_number(rt, "opening 2 rows of 1", 2, number_of(Shape::check(2, 1, 2, 2)))?;
-    tell_number(rt, "opening on a seat too few", 3, number_of(Shape::check(2, 1, 1, 1)))?;
+    tell_number(
+        rt,
+        "opening 1 bucket",
+        1,
+        number_of(Shape::check(1, 1, 1, 1)),
+    )?;
+    tell_number(
+        rt,
+        "opening 2 buckets",
+        0,
+        number_of(Shape::check(2, 1, 1, 2)),
+    )?;
+    tell_number(
+        rt,
+        "opening 4096 buckets",
+        0,
+        number_of(Shape::check(4096, 1, 1, 4096)),
+    )?;
+    tell_number(
+        rt,
+        "opening 4097 buckets",
+        1,
+        number_of(Shape::check(4097, 1, 1, 4097)),
+    )?;
+    tell_number(
+        rt,
+        "opening 9 rows",
+        2,
+        number_of(Shape::check(2, 9, 1, 18)),
+    )?;
+    tell_number(
+        rt,
+        "opening 2 rows of 1",
+        2,
+        number_of(Shape::check(2, 1, 2, 2)),
+    )?;
+    tell_number(
+        rt,
+        "opening on a seat too few",
+        3,
+        number_of(Shape::check(2, 1, 1, 1)),
+    )?;
     tell_number(rt, "a key of 64 bytes", 0, key_number(&[1; 64])?)?;
     tell_number(rt, "a key of 65 bytes", 5, key_number(&[1; 65])?)
 }

@@ -72,7 +72,11 @@ fn large_call(i: u32, traffic: bool) -> Record {
             octets_of(traffic, 999_999_999_999_000),
         ),
         7 => {
-            let call = if i % 20 == 7 { Call::Erase } else { Call::LookUp };
+            let call = if i % 20 == 7 {
+                Call::Erase
+            } else {
+                Call::LookUp
+            };
             record(call, number_at(i.saturating_sub(7)), 0, 0)
         }
         9 => record(

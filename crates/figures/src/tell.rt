@@ -8,7 +8,12 @@ pub fn tell_number(rt: &LibcRuntime, what: &str, expected: u64, came: u64) -> Re
 }
 
 // Each printed line beside the one that was expected.
-pub fn tell_lines(rt: &LibcRuntime, what: &str, expected: &[u8], came: &[u8]) -> Result<(), AnyError> {
+pub fn tell_lines(
+    rt: &LibcRuntime,
+    what: &str,
+    expected: &[u8],
+    came: &[u8],
+) -> Result<(), AnyError> {
     println!(rt, "{what}: expected")?;
     rt.stdout().write_all(expected)?;
     println!(rt, "{what}: came")?;
