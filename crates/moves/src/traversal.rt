@@ -16,7 +16,7 @@ use tallies::tally::Tally;
 const UNSEEN: u32 = 4_294_967_295;
 
 // The link of a bucket that the traversal begins with. Any other link is the seat from which the bucket was reached.
-pub const ROOT: u32 = 4_294_967_294;
+pub(crate) const ROOT: u32 = 4_294_967_294;
 
 // What became of a bucket: a free seat of it, or none, with the new end of the queue.
 #[derive(Clone, Copy)]
@@ -92,7 +92,7 @@ fn expand<T: Tally + Copy>(
 }
 
 // The nearest free seat to which a chain of moves leads from the buckets of the fingerprint, with the chain in the links.
-pub fn nearest_free<T: Tally + Copy>(
+pub(crate) fn nearest_free<T: Tally + Copy>(
     seats: &[Seat<T>],
     shape: Shape,
     fingerprint: u32,

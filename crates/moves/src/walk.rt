@@ -26,7 +26,7 @@ fn move_entry<T: Tally + Copy>(seats: &mut [Seat<T>], from: usize, bucket: u32, 
 
 // Moves each entry of the chain that leads to the free seat on by one, the last first, and gives the seat at the chain's root
 // that is open then. The entry there has moved on too: the seat is to be written.
-pub fn walk_back<T: Tally + Copy>(
+pub(crate) fn walk_back<T: Tally + Copy>(
     seats: &mut [Seat<T>],
     shape: Shape,
     links: &[u32],
@@ -50,7 +50,7 @@ pub fn walk_back<T: Tally + Copy>(
 }
 
 // Writes the entry of the fingerprint into the seat `hole` of one of its buckets.
-pub fn enter<T: Tally + Copy>(
+pub(crate) fn enter<T: Tally + Copy>(
     seats: &mut [Seat<T>],
     shape: Shape,
     fingerprint: u32,

@@ -89,7 +89,12 @@ fn check_zeros(block: &[u8], place: u8) -> Result<(), RecordFault>
     }
 }
 
-pub fn check_block(block: &[u8], first: Header, place: u8, last: bool) -> Result<(), BlockFault>
+pub(crate) fn check_block(
+    block: &[u8],
+    first: Header,
+    place: u8,
+    last: bool,
+) -> Result<(), BlockFault>
     requires { ⌜ length (now block) ≡ 512 ⌝ }
     ensures { λ r. ⌜ r ≡ block-checked first place last (now (block .entry)) ⌝ }
 {

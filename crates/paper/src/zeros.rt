@@ -2,7 +2,7 @@ ghost use mathlib.Core.Path.{_≡_};
 ghost use Rattle.paper.specs.Records.{first-nonzero};
 
 // The place of the first byte that is not zero.
-pub fn first_nonzero(bytes: &[u8]) -> Option<usize>
+pub(crate) fn first_nonzero(bytes: &[u8]) -> Option<usize>
     ensures { λ r. ⌜ r ≡ first-nonzero 0 (now (bytes .entry)) ⌝ }
 {
     for (i, byte) in bytes.iter().enumerate() {

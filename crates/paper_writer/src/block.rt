@@ -44,7 +44,7 @@ fn write_record(part: &mut [u8], entry: &Record)
     write_u64(part, 18, entry.octets);
 }
 
-pub fn write_block(block: &mut [u8], header: Header, place: u8, records: &[Record])
+pub(crate) fn write_block(block: &mut [u8], header: Header, place: u8, records: &[Record])
     requires { ⌜ length (now block) ≡ 512 ⌝ ∗ ⌜ length (now records) ≤ 19 ⌝ }
     ensures { λ _. ⌜ now (block .exit) ≡ block-bytes header place (now (records .entry)) ⌝ }
 {

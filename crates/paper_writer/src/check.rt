@@ -30,7 +30,7 @@ fn check_records(records: &[Record], kind: u8) -> Result<(), RecordFault>
     Ok(())
 }
 
-pub fn check_contents(header: Header, records: &[Record]) -> Result<(), BlockFault>
+pub(crate) fn check_contents(header: Header, records: &[Record]) -> Result<(), BlockFault>
     requires { ⌜ length (now records) ≤ 1900 ⌝ }
     ensures answer { λ r. ⌜ r ≡ contents-checked header (now (records .entry)) ⌝ }
     ensures held { λ r. ⌜ (isOk r ≡ true → All Held (now (records .entry))) ⌝ }
