@@ -1,7 +1,7 @@
 -- What seats show with an entry moved to its other bucket. Assumes nothing.
 use Rattle.std.proofs.Common.{◌≡◌, ℕ, ◌+◌, ◌*◌, ◌/◌, ◌%◌, ◌<◌, Bool, true, false, not, eqb, List, length, set, Some, None, Option, sym, refl, ap, ◌∙◌, subst, ⊎_elim, arith}
 use Rattle.std.proofs.lemmas.List.{get_or-set_same, get_or-set_other, length-set, set-get_or}
-use Rattle.std.proofs.lemmas.Bool.{cond_true, cond_false, cases_Bool, eqb-true, eq-eqb}
+use Rattle.std.proofs.lemmas.Bool.{cond-true, cond-false, cases_Bool, eqb-true, eq-eqb}
 use Rattle.seats.specs.declared.seat.Seat.{Seat}
 use Rattle.seats.specs.Shapes.{Size, Sound}
 use Rattle.seats.specs.Places.{place_of}
@@ -65,7 +65,7 @@ module _ {X : Type 0} (e : X) {z : Size} (sound : Sound z) (xs : List (Seat X)) 
       let without : Shows e ys z (changed entries f None) =
       shows_emptied e sound xs entries f s (vacant e) shows (filled_inside e xs s filled) (λ g t. sits_one e sound xs g f s t sits) (λ k t. shows.alone f k s t sits) refl
       in
-      let gone : changed entries f None f ≡ None = cond_true (eqb f f) None (entries f) (eq-eqb f f refl) in
+      let gone : changed entries f None f ≡ None = cond-true (eqb f f) None (entries f) (eq-eqb f f refl) in
       let still : at e ys h ≡ vacant e = get_or-set_other xs s h (vacant e) (vacant e) (λ is. not_hole (sym is)) ∙ empty in
       let inside' : h < length ys = omega (arith, length-set xs s (vacant e)) in
       let x : Seat X = moved e xs s i in
@@ -89,7 +89,7 @@ module _ {X : Type 0} (e : X) {z : Size} (sound : Sound z) (xs : List (Seat X)) 
       shows_like e sound (set ys h x) (changed (changed entries f None) f (Some tally)) entries
       (λ g.
       ⊎_elim
-      (λ (is : eqb g f ≡ true). ap entries (eqb-true g f is) ∙ shows.told f s sits ∙ sym (cond_true (eqb g f) (Some tally) (changed entries f None g) is))
-      (λ (is : eqb g f ≡ false). sym (cond_false (eqb g f) (Some tally) (changed entries f None g) is ∙ cond_false (eqb g f) None (entries g) is))
+      (λ (is : eqb g f ≡ true). ap entries (eqb-true g f is) ∙ shows.told f s sits ∙ sym (cond-true (eqb g f) (Some tally) (changed entries f None g) is))
+      (λ (is : eqb g f ≡ false). sym (cond-false (eqb g f) (Some tally) (changed entries f None g) is ∙ cond-false (eqb g f) None (entries g) is))
       (cases_Bool (eqb g f)))
       back

@@ -1,7 +1,7 @@
 -- The new entry, in the seat that is open for it. Assumes nothing.
 use Rattle.std.proofs.Common.{◌≡◌, ℕ, ◌*◌, ◌/◌, ◌%◌, ◌<◌, Bool, true, false, eqb, ◌⊎◌, List, length, get_or, set, Some, None, sym, refl, ap, ◌∙◌, subst, inl, inr, ⊎_elim, arith}
 use Rattle.std.proofs.lemmas.List.{get_or-set_same, length-set, set-set}
-use Rattle.std.proofs.lemmas.Bool.{cond_true, cond_false, cases_Bool, eq-eqb, eqb-true}
+use Rattle.std.proofs.lemmas.Bool.{cond-true, cond-false, cases_Bool, eq-eqb, eqb-true}
 use Rattle.tallies.specs.Kinds.{Kind}
 use Rattle.seats.specs.declared.seat.Seat.{Seat}
 use Rattle.seats.specs.Shapes.{Size, Sound}
@@ -47,11 +47,11 @@ module _ {X : Type 0} {e : X} {before after : List (Seat X)} {z : Size} {hole : 
   -- the seat lies in the bucket that f has at this flag, and the flag is true if f has but one bucket
   by_flag : (chosen : Bool) → hole / z.most ≡ (place_of z.buckets f chosen).bucket →
       (hole / z.most ≡ (place_of z.buckets f flag).bucket) × (f / z.buckets ≡ f % z.buckets → flag ≡ true)
-  by_flag true is = let yes = eq-eqb (hole / z.most) (f / z.buckets) is in (is ∙ sym (cond_true flag (f / z.buckets) (f % z.buckets) yes), λ _. yes)
+  by_flag true is = let yes = eq-eqb (hole / z.most) (f / z.buckets) is in (is ∙ sym (cond-true flag (f / z.buckets) (f % z.buckets) yes), λ _. yes)
   by_flag false is = (
     ⊎_elim
-        (λ yes. eqb-true (hole / z.most) (f / z.buckets) yes ∙ sym (cond_true flag (f / z.buckets) (f % z.buckets) yes))
-        (λ no_flag. is ∙ sym (cond_false flag (f / z.buckets) (f % z.buckets) no_flag))
+        (λ yes. eqb-true (hole / z.most) (f / z.buckets) yes ∙ sym (cond-true flag (f / z.buckets) (f % z.buckets) yes))
+        (λ no_flag. is ∙ sym (cond-false flag (f / z.buckets) (f % z.buckets) no_flag))
         (cases_Bool flag),
     λ even. eq-eqb (hole / z.most) (f / z.buckets) (is ∙ sym even),
   )

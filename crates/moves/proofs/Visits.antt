@@ -1,7 +1,7 @@
 -- A visit keeps the queue in order. Assumes nothing.
 use Rattle.std.proofs.Common.{◌≡◌, ℕ, ◌+◌, ◌/◌, ◌%◌, ◌<◌, ◌≤◌, true, false, cond, eqb, ◌⊎◌, List, length, get_or, sym, refl, ap, ◌∙◌, subst, inl, inr, ⊎_elim, arith}
 use Rattle.std.proofs.lemmas.List.{get_or-set_same, get_or-set_other}
-use Rattle.std.proofs.lemmas.Bool.{cond_true, cond_false, cases_eq, eq-eqb, ne_eqb}
+use Rattle.std.proofs.lemmas.Bool.{cond-true, cond-false, cases_eq, eq-eqb, ne_eqb}
 use Rattle.seatings.proofs.Counts.{count_all}
 use Rattle.seatings.proofs.Pigeons.{pigeons_many}
 use Rattle.seats.specs.Shapes.{Size, Sound}
@@ -13,10 +13,10 @@ abbrev pub put : {X : Type 0} → (ℕ → X) → ℕ → X → ℕ → X
 put f k v q = cond (eqb q k) v (f q)
 
 pub put_same : {X : Type 0} (f : ℕ → X) (k : ℕ) (v : X) (q : ℕ) → q ≡ k → put f k v q ≡ v
-put_same f k v q is = cond_true (eqb q k) v (f q) (eq-eqb q k is)
+put_same f k v q is = cond-true (eqb q k) v (f q) (eq-eqb q k is)
 
 pub put_other : {X : Type 0} (f : ℕ → X) (k : ℕ) (v : X) (q : ℕ) → (q ≡ k → ⊥) → put f k v q ≡ f q
-put_other f k v q ne = cond_false (eqb q k) v (f q) (ne_eqb q k ne)
+put_other f k v q ne = cond-false (eqb q k) v (f q) (ne_eqb q k ne)
 
 -- a bucket whose link is kept is seen as before
 seen_kept : (links links' : List ℕ) (j : ℕ) → get_or links' j 0 ≡ get_or links j 0 → Seen links j → Seen links' j

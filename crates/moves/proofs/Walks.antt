@@ -2,7 +2,7 @@
 use Rattle.std.proofs.Common.{◌≡◌, ℕ, zero, suc, ◌+◌, ◌*◌, ◌/◌, ◌%◌, ◌<◌, not, eqb, List, length, get_or, set, sym, refl, ap, ◌∙◌, subst, ⊎_elim, arith}
 use Rattle.std.proofs.lemmas.Nat.{div-mul-add, mod-mul-add}
 use Rattle.std.proofs.lemmas.List.{get_or-set_same, get_or-set_other, length-set, set-set, set_comm}
-use Rattle.std.proofs.lemmas.Bool.{cond_true, cond_false, ne_eqb, eq-eqb}
+use Rattle.std.proofs.lemmas.Bool.{cond-true, cond-false, ne_eqb, eq-eqb}
 use Rattle.seats.specs.declared.seat.Seat.{Seat}
 use Rattle.seats.specs.Shapes.{Size, Sound}
 use Rattle.seats.specs.Seats.{at, seat, vacant, Lies, Shows}
@@ -52,11 +52,11 @@ module _ {X : Type 0} {e : X} {before : List (Seat X)} {z : Size} (sound : Sound
         let link = get_or links j 0 in
         let rest = depth links z.most n (link / z.most) in
         ⊎_elim
-        (λ at-root. cond_true (eqb link root) 0 (suc rest) (eq-eqb link root at-root.0) ∙ sym at-root.1)
+        (λ at-root. cond-true (eqb link root) 0 (suc rest) (eq-eqb link root at-root.0) ∙ sym at-root.1)
         (λ (p : Parent e before z links t.rank (t.rank j) j link).
         let inner : link ≡ root → ⊥ = λ is. omega (arith, p.lies, p.in_rows, bucket_inside sound p.bucket p.in_table, few_seats sound) in
         let further : rest ≡ t.rank p.bucket = ap (depth links z.most n) (at_parent p) ∙ depth_is n p.bucket p.in_table p.seen (omega (arith, p.nearer)) in
-        omega (arith, cond_false (eqb link root) 0 (suc rest) (ne_eqb link root inner), further, p.nearer))
+        omega (arith, cond-false (eqb link root) 0 (suc rest) (ne_eqb link root inner), further, p.nearer))
         (t.step j low seen)
 
     pub depth_falls : (j : ℕ) → j < z.buckets → Seen links j → (get_or links j 0 ≡ root → ⊥) →

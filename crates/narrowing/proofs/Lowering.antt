@@ -2,7 +2,7 @@
 use Rattle.std.proofs.Common.{◌≡◌, ℕ, ◌+◌, ◌-◌, ◌*◌, ◌%◌, ◌<◌, ◌≤◌, Bool, true, false, cond, not, ◌||◌, eqb, ltb, ◌⊎◌, List, length, set, is_some as option_is_some, Some, None, Option, sym, refl, ap, ◌∙◌, subst, inl, inr, ⊎_elim, arith}
 use Rattle.std.proofs.lemmas.Nat.{mod-mul-add, mul-add-lt}
 use Rattle.std.proofs.lemmas.List.{get_or-set_same, get_or-set_other}
-use Rattle.std.proofs.lemmas.Bool.{cond_true, cond_false, cases_Bool, cases_eq, cases_lt, eqb-true, eqb-false, eq-eqb, lt-ltb, le-ltb, ltb-true, ltb-false}
+use Rattle.std.proofs.lemmas.Bool.{cond-true, cond-false, cases_Bool, cases_eq, cases_lt, eqb-true, eqb-false, eq-eqb, lt-ltb, le-ltb, ltb-true, ltb-false}
 use Rattle.tallies.specs.Kinds.{Kind, Lawful}
 use Rattle.seatings.specs.Seatings.{Seating, also}
 use Rattle.seatings.proofs.Fewer.{seating_fewer}
@@ -75,11 +75,11 @@ module _ {X : Type 0} (e : X) {z : Size} (sound : Sound z) (more : 1 < z.rows) w
     sits_low g t is =
         ⊎_elim
         (λ (yes : is_low g ≡ true).
-        let entry : entries g ≡ Some t = sym (cond_true (is_low g) (entries g) None yes) ∙ is in
+        let entry : entries g ≡ Some t = sym (cond-true (is_low g) (entries g) None yes) ∙ is in
         let s = sits_there e sound xs entries shows g (is_some (entries g) t entry) in
         let row = row_is xs g (seat_of e sound xs entries shows g) s in
         (entry, lowered xs g (seat_of e sound xs entries shows g) s (omega (arith, ltb-true (seat_of e sound xs entries shows g % z.most) (z.rows - 1) yes))))
-        (λ (no : is_low g ≡ false). absurd (some_none (low g) t is (cond_false (is_low g) (entries g) None no)))
+        (λ (no : is_low g ≡ false). absurd (some_none (low g) t is (cond-false (is_low g) (entries g) None no)))
         (cases_Bool (is_low g))
 
     low_from : (g i : ℕ) → Sits e xs (narrower z) g i → low g ≡ Some (at e xs i).tally
@@ -90,7 +90,7 @@ module _ {X : Type 0} (e : X) {z : Size} (sound : Sound z) (more : 1 < z.rows) w
         let same : seat_of e sound xs entries shows g ≡ i = shows.alone g (seat_of e sound xs entries shows g) i there s' in
         let row = row_is xs g i s' in
         let yes : is_low g ≡ true = lt-ltb (seat_of e sound xs entries shows g % z.most) (z.rows - 1) (omega (arith, ap (λ n. n % z.most) same, s.in_rows)) in
-        cond_true (is_low g) (entries g) None yes ∙ entry
+        cond-true (is_low g) (entries g) None yes ∙ entry
 
     pub low_shown : Shows e xs (narrower z) low
     low_shown = record {
@@ -195,8 +195,8 @@ module _ {X : Type 0} (e : X) {z : Size} (sound : Sound z) (more : 1 < z.rows) w
       mid_held g t is =
           ⊎_elim
           (λ (same : eqb g f ≡ true).
-          ap entries (eqb-true g f same) ∙ shows.told f i sits ∙ ap Some (sym got) ∙ sym (cond_true (eqb g f) (Some tally) (below g) same) ∙ is)
-          (λ (apart : eqb g f ≡ false). (sits_low xs entries shows g t (sym (cond_false (eqb g f) (Some tally) (below g) apart) ∙ is)).0)
+          ap entries (eqb-true g f same) ∙ shows.told f i sits ∙ ap Some (sym got) ∙ sym (cond-true (eqb g f) (Some tally) (below g) same) ∙ is)
+          (λ (apart : eqb g f ≡ false). (sits_low xs entries shows g t (sym (cond-false (eqb g f) (Some tally) (below g) apart) ∙ is)).0)
           (cases_Bool (eqb g f))
 
       -- none sits both below in mid and in a last seat of xs other than i
@@ -205,7 +205,7 @@ module _ {X : Type 0} (e : X) {z : Size} (sound : Sound z) (more : 1 < z.rows) w
           let entry = mid_shows.told g j s in
           ⊎_elim
           (λ (same : eqb g f ≡ true). apart (shows.alone f k i (subst (λ n. Sits e xs z n k) (eqb-true g f same) t) sits))
-          (λ (other : eqb g f ≡ false). not_last g k t last (at e mid j).tally (sym (cond_false (eqb g f) (Some tally) (below g) other) ∙ entry))
+          (λ (other : eqb g f ≡ false). not_last g k t last (at e mid j).tally (sym (cond-false (eqb g f) (Some tally) (below g) other) ∙ entry))
           (cases_Bool (eqb g f))
 
       told' : (g j : ℕ) → Sits e ys z g j → entries g ≡ Some (at e ys j).tally
@@ -221,12 +221,12 @@ module _ {X : Type 0} (e : X) {z : Size} (sound : Sound z) (more : 1 < z.rows) w
       seated' g t is =
           ⊎_elim
           (λ (same : eqb g f ≡ true).
-          let (j, s) = mid_shows.seated g tally (cond_true (eqb g f) (Some tally) (below g) same) in
+          let (j, s) = mid_shows.seated g tally (cond-true (eqb g f) (Some tally) (below g) same) in
           (j, back_low g j s))
           (λ (other : eqb g f ≡ false).
           ⊎_elim
           (λ (yes : is_low xs entries shows g ≡ true).
-          let (j, s) = mid_shows.seated g t (cond_false (eqb g f) (Some tally) (below g) other ∙ cond_true (is_low xs entries shows g) (entries g) None yes ∙ is) in
+          let (j, s) = mid_shows.seated g t (cond-false (eqb g f) (Some tally) (below g) other ∙ cond-true (is_low xs entries shows g) (entries g) None yes ∙ is) in
           (j, back_low g j s))
           (λ (no : is_low xs entries shows g ≡ false).
           let j = seat_of e sound xs entries shows g in

@@ -2,7 +2,7 @@
 use Rattle.std.proofs.Common.{◌≡◌, ℕ, ◌+◌, ◌*◌, ◌/◌, ◌%◌, ◌<◌, Bool, true, false, eqb, List, length, set, Some, None, Option, sym, refl, ap, ◌∙◌, subst, ⊎_elim, arith}
 use Rattle.std.proofs.lemmas.Nat.{div-mul-add, div-add-mod'}
 use Rattle.std.proofs.lemmas.List.{get_or-set_same, get_or-set_other}
-use Rattle.std.proofs.lemmas.Bool.{cond_true, cond_false, cases_eq, ne_eqb, eq-eqb}
+use Rattle.std.proofs.lemmas.Bool.{cond-true, cond-false, cases_eq, ne_eqb, eq-eqb}
 use Rattle.seats.specs.declared.seat.Seat.{Seat}
 use Rattle.seats.specs.Shapes.{Size, Sound}
 use Rattle.seats.specs.Places.{place_of, given_back}
@@ -88,14 +88,14 @@ module _ {X : Type 0} (e : X) {z : Size} (sound : Sound z) where
 
     other_seated : (g : ℕ) (entry : Option X) (t : X) → changed entries f entry g ≡ Some t → (g ≡ f → ⊥) → (j : ℕ) × Sits e ys z g j
     other_seated g entry t is apart =
-        let (j, sits) = shows.seated g t (sym (cond_false (eqb g f) entry (entries g) (ne_eqb g f apart)) ∙ is) in
+        let (j, sits) = shows.seated g t (sym (cond-false (eqb g f) entry (entries g) (ne_eqb g f apart)) ∙ is) in
         (j, newer g j (other_sits g j apart sits) sits)
 
     other_told : (g j : ℕ) (entry : Option X) → (j ≡ i → ⊥) → Sits e ys z g j → changed entries f entry g ≡ Some (at e ys j).tally
     other_told g j entry apart t =
         let t' = older g j apart t in
         let ne : g ≡ f → ⊥ = λ is. apart (only j (subst (λ n. Sits e xs z n j) is t')) in
-        cond_false (eqb g f) entry (entries g) (ne_eqb g f ne) ∙ shows.told g j t' ∙ ap (λ (x : Seat X). Some x.tally) (sym (there j apart))
+        cond-false (eqb g f) entry (entries g) (ne_eqb g f ne) ∙ shows.told g j t' ∙ ap (λ (x : Seat X). Some x.tally) (sym (there j apart))
 
     other_gives_back : (bucket row : ℕ) → bucket < z.buckets → row < z.rows → (bucket * z.most + row ≡ i → ⊥) → Filled e ys (bucket * z.most + row) → (g : ℕ) × Sits e ys z g (bucket * z.most + row)
     other_gives_back bucket row b r apart filled =
@@ -123,7 +123,7 @@ module _ {X : Type 0} (e : X) {z : Size} (sound : Sound z) where
           ⊎_elim
           (λ is.
           let g-is : g ≡ f = sits_one ys g f i (subst (λ n. Sits e ys z g n) is t) sits in
-          cond_true (eqb g f) (Some s.tally) (entries g) (eq-eqb g f g-is) ∙ ap (λ (x : Seat X). Some x.tally) (sym (here j is)))
+          cond-true (eqb g f) (Some s.tally) (entries g) (eq-eqb g f g-is) ∙ ap (λ (x : Seat X). Some x.tally) (sym (here j is)))
           (λ apart. other_told g j (Some s.tally) apart t)
           (cases_eq j i);
       seated = λ g t is.
@@ -169,7 +169,7 @@ module _ {X : Type 0} (e : X) {z : Size} (sound : Sound z) where
       told = λ g j t. other_told g j None (λ is. t.filled (empty_here j is)) t;
       seated = λ g t is.
           ⊎_elim
-          (λ same. absurd (not_some (changed entries f None g) t (cond_true (eqb g f) None (entries g) (eq-eqb g f same)) is))
+          (λ same. absurd (not_some (changed entries f None g) t (cond-true (eqb g f) None (entries g) (eq-eqb g f same)) is))
           (λ apart. other_seated g None t is apart)
           (cases_eq g f);
       alone = λ g j k t u. shows.alone g j k (older g j (λ is. t.filled (empty_here j is)) t) (older g k (λ is. u.filled (empty_here k is)) u);

@@ -2,7 +2,7 @@
 use Rattle.std.proofs.Common.{◌≡◌, ℕ, ◌+◌, ◌*◌, ◌%◌, ◌<◌, ◌≤◌, true, false, eqb, List, length, set, Some, None, Option, sym, refl, ap, ◌∙◌, subst, ⊎_elim, arith}
 use Rattle.std.proofs.lemmas.Nat.{mod-mul-add}
 use Rattle.std.proofs.lemmas.List.{get_or-set_same, get_or-set_other}
-use Rattle.std.proofs.lemmas.Bool.{cond_true, cond_false, cases_Bool}
+use Rattle.std.proofs.lemmas.Bool.{cond-true, cond-false, cases_Bool}
 use Rattle.tallies.specs.Kinds.{Kind}
 use Rattle.rules.specs.Rules.{Meaning}
 use Rattle.seats.specs.declared.refusal.Refusal.{Refusal}
@@ -83,8 +83,8 @@ module _ {V : Type 0} (k : Kind V) (t u : Table V) (f : ℕ) (entry : Option V) 
   values_changed : (b : Book V) → Keeps k t b → ((v : V) → entry ≡ Some v → k.is_value v ≡ true) → (g : ℕ) (v : V) → changed b.entries f entry g ≡ Some v → k.is_value v ≡ true
   values_changed b keeps value g v is =
       ⊎_elim
-      (λ (here : eqb g f ≡ true). value v (sym (cond_true (eqb g f) entry (b.entries g) here) ∙ is))
-      (λ (there : eqb g f ≡ false). keeps.values g v (sym (cond_false (eqb g f) entry (b.entries g) there) ∙ is))
+      (λ (here : eqb g f ≡ true). value v (sym (cond-true (eqb g f) entry (b.entries g) here) ∙ is))
+      (λ (there : eqb g f ≡ false). keeps.values g v (sym (cond-false (eqb g f) entry (b.entries g) there) ∙ is))
       (cases_Bool (eqb g f))
 
   pub keeps_changed : Changes → (b : Book V) → Keeps k t b → ((v : V) → entry ≡ Some v → k.is_value v ≡ true) → u.held ≡ holding (enter b f entry) → Keeps k u (enter b f entry)

@@ -11,8 +11,8 @@ use Rattle.narrowing.proofs.lower_entry.Goals as goal
 not_both : (b : Bool) → b ≡ true → b ≡ false → ⊥
 not_both b p q = let z : ◌≡◌ {A = ℕ} 0 1 = cc in omega arith
 
-pub offset-bounds-seats-i : goal.offset-bounds-seats-i
-offset-bounds-seats-i g c =
+pub offset_bounds-seats-i : goal.offset_bounds-seats-i
+offset_bounds-seats-i g c =
     let low : c.args.bucket * c.args.shape.most + (c.args.shape.rows - 1) < length c.args.seats.now = omega (arith, inside g.T.Tally.kind.empty (shape_sound c.args.shape) c.requires.lower.0 c.args.bucket c.requires.sizes.2) in
     search rules
 
@@ -22,8 +22,8 @@ bounds-seats-i g c = omega (arith, inside g.T.Tally.kind.empty (shape_sound c.ar
 pub vacate-tally-requires : goal.vacate-tally-requires
 vacate-tally-requires g c = omega (arith, inside g.T.Tally.kind.empty (shape_sound c.args.shape) c.requires.lower.0 c.args.bucket c.requires.sizes.2)
 
-pub returns-then-is-empty : goal.returns-then-is-empty
-returns-then-is-empty g c =
+pub returns-then-is_empty : goal.returns-then-is_empty
+returns-then-is_empty g c =
     let k = g.T.Tally.kind in
     let sound = shape_sound c.args.shape in
     let xs = c.args.seats.now in
@@ -32,10 +32,10 @@ returns-then-is-empty g c =
     let s = c.index-seats-i.result in
     let read : s ≡ at k.empty xs i = get_or_read xs i s low c.index-seats-i.is (vacant k.empty) in
     nothing_there k.empty sound c.requires.lower.0 k refl g.met.T.Tally.lawful xs c.args.bucket c.requires.sizes.2 s read
-    ((g.met.T.Tally.lawful.empty_told s.tally).0 (sym c.if-is-empty.ensures.value))
+    ((g.met.T.Tally.lawful.empty_told s.tally).0 (sym c.if-is_empty.ensures.value))
 
-pub returns-in-default : goal.returns-in-default
-returns-in-default g c =
+pub returns-in_default : goal.returns-in_default
+returns-in_default g c =
     let k = g.T.Tally.kind in
     let sound = shape_sound c.args.shape in
     let xs = c.args.seats.now in
@@ -43,8 +43,8 @@ returns-in-default g c =
     let low : i < length xs = omega (arith, inside k.empty sound c.requires.lower.0 c.args.bucket c.requires.sizes.2) in
     let s = c.index-seats-i.result in
     let read : s ≡ at k.empty xs i = get_or_read xs i s low c.index-seats-i.is (vacant k.empty) in
-    let some : s.tally ≡ k.empty → ⊥ = λ is. not_both (k.is_empty s.tally) ((g.met.T.Tally.lawful.empty_told s.tally).1 is) (sym c.if-is-empty.ensures.value) in
-    no_fingerprint k.empty sound c.requires.lower.0 k refl g.met.T.Tally.lawful xs c.args.bucket c.requires.sizes.2 s read some c.in-default.ensures
+    let some : s.tally ≡ k.empty → ⊥ = λ is. not_both (k.is_empty s.tally) ((g.met.T.Tally.lawful.empty_told s.tally).1 is) (sym c.if-is_empty.ensures.value) in
+    no_fingerprint k.empty sound c.requires.lower.0 k refl g.met.T.Tally.lawful xs c.args.bucket c.requires.sizes.2 s read some c.in_default.ensures
 
 pub returns-in-Err : goal.returns-in-Err
 returns-in-Err g c =
@@ -55,7 +55,7 @@ returns-in-Err g c =
     let low : i < length xs = omega (arith, inside k.empty sound c.requires.lower.0 c.args.bucket c.requires.sizes.2) in
     let s = c.index-seats-i.result in
     let read : s ≡ at k.empty xs i = get_or_read xs i s low c.index-seats-i.is (vacant k.empty) in
-    let some : s.tally ≡ k.empty → ⊥ = λ is. not_both (k.is_empty s.tally) ((g.met.T.Tally.lawful.empty_told s.tally).1 is) (sym c.if-is-empty.ensures.value) in
+    let some : s.tally ≡ k.empty → ⊥ = λ is. not_both (k.is_empty s.tally) ((g.met.T.Tally.lawful.empty_told s.tally).1 is) (sym c.if-is_empty.ensures.value) in
     let refused = subst (λ (z : Size). Refused k.empty xs c.place.new.seats z c.in-Some.fingerprint (bar k xs z s.tally (length c.args.words.now)) c.in-Err.field-0) c.requires.lower.1 c.in-Err.ensures.placed in
     no_seat k.empty sound c.requires.lower.0 k refl g.met.T.Tally.lawful xs c.args.bucket c.requires.sizes.2 s read some
     c.in-Some.fingerprint c.in-Some.ensures.0 c.place.new.seats (length c.args.words.now) c.in-Err.field-0 c.requires.sizes.0 c.requires.sizes.1 refused
@@ -69,7 +69,7 @@ returns-in-Ok g c =
     let low : i < length xs = omega (arith, inside k.empty sound c.requires.lower.0 c.args.bucket c.requires.sizes.2) in
     let s = c.index-seats-i.result in
     let read : s ≡ at k.empty xs i = get_or_read xs i s low c.index-seats-i.is (vacant k.empty) in
-    let some : s.tally ≡ k.empty → ⊥ = λ is. not_both (k.is_empty s.tally) ((g.met.T.Tally.lawful.empty_told s.tally).1 is) (sym c.if-is-empty.ensures.value) in
+    let some : s.tally ≡ k.empty → ⊥ = λ is. not_both (k.is_empty s.tally) ((g.met.T.Tally.lawful.empty_told s.tally).1 is) (sym c.if-is_empty.ensures.value) in
     let accepted = subst (λ (z : Size). Accepted k.empty xs c.place.new.seats z c.in-Some.fingerprint s.tally) c.requires.lower.1 c.in-Ok.ensures.placed.1 in
     seat_below k.empty sound c.requires.lower.0 k refl g.met.T.Tally.lawful xs c.args.bucket c.requires.sizes.2 s read some
     c.in-Some.fingerprint c.in-Some.ensures.0 c.place.new.seats c.vacate-tally.new.seats (omega (arith, c.place.auto.seats)) accepted c.vacate-tally.ensures.after

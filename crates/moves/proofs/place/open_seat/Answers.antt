@@ -13,13 +13,13 @@ returns-in-None g c = record {
   seat = record {
     same = refl;
     unseatable = λ below entries shows none.
-        unseatable g.T.Tally.kind.empty (shape_sound c.args.shape) c.args.seats.now entries shows c.args.fingerprint c.nearest-free.new.links below none c.in-None.ensures;
+        unseatable g.T.Tally.kind.empty (shape_sound c.args.shape) c.args.seats.now entries shows c.args.fingerprint c.nearest_free.new.links below none c.in-None.ensures;
   };
-  spared = inr c.in-default.ensures;
+  spared = inr c.in_default.ensures;
 }
 
-pub returns-in-Some-nearest-free : goal.returns-in-Some-nearest-free
-returns-in-Some-nearest-free g c =
-    let crowded = c.in-default.ensures in
-    let (bucket, at-root, opened) = c.walk-back.ensures in
-    record { seat = ready_root (size c.args.shape) c.args.fingerprint c.nearest-free.new.links c.in-Some-nearest-free.ensures.roots at-root opened crowded; spared = inr crowded }
+pub returns-in-Some-nearest_free : goal.returns-in-Some-nearest_free
+returns-in-Some-nearest_free g c =
+    let crowded = c.in_default.ensures in
+    let (bucket, at-root, opened) = c.walk_back.ensures in
+    record { seat = ready_root (size c.args.shape) c.args.fingerprint c.nearest_free.new.links c.in-Some-nearest_free.ensures.roots at-root opened crowded; spared = inr crowded }

@@ -31,6 +31,6 @@ returns-in-Some g c =
 pub returns : goal.returns
 returns g c =
     in_remainder g.T.Tally.kind.empty c.args.seats.now (size c.args.shape) c.args.fingerprint
-    c.place.result.bucket c.place-2.result.bucket c.free-seat-2.result
+    c.place.result.bucket c.place-2.result.bucket c.free_seat-2.result
     (ap (λ (p : Place). p.bucket) c.place.ensures.value) (ap (λ (p : Place). p.bucket) c.place-2.ensures.value)
-    c.in-default.ensures c.free-seat-2.ensures
+    c.in_default.ensures c.free_seat-2.ensures

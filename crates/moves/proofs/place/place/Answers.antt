@@ -17,7 +17,7 @@ returns-in-None g c =
     let none = c.in-None.ensures in
     record {
       placed = record { same = none.seat.same; reason = inr (let-in, refl, none.seat.unseatable) };
-      spared = spared g.T.Tally.kind c.args.seats.now (size c.args.shape) c.args.fingerprint c.args.tally c.args.words.now c.open-seat.new.words let-in below none.spared;
+      spared = spared g.T.Tally.kind c.args.seats.now (size c.args.shape) c.args.fingerprint c.args.tally c.args.words.now c.open_seat.new.words let-in below none.spared;
     }
 
 pub returns-in-Some : goal.returns-in-Some
@@ -28,9 +28,9 @@ returns-in-Some g c =
     record {
       placed = (
         let-in,
-        accepted {before = c.args.seats.now} {after = c.open-seat.new.seats} (shape_sound c.args.shape) c.args.fingerprint (omega arith) ready.seat below c.args.tally
-            (λ empty. both_ways c.is_empty.result c.if-is-empty.false (c.is_empty.ensures.value ∙ (g.met.T.Tally.lawful.empty_told c.args.tally).1 empty))
+        accepted {before = c.args.seats.now} {after = c.open_seat.new.seats} (shape_sound c.args.shape) c.args.fingerprint (omega arith) ready.seat below c.args.tally
+            (λ empty. both_ways c.is_empty.result c.if-is_empty.false (c.is_empty.ensures.value ∙ (g.met.T.Tally.lawful.empty_told c.args.tally).1 empty))
             c.enter.ensures,
       );
-      spared = spared g.T.Tally.kind c.args.seats.now (size c.args.shape) c.args.fingerprint c.args.tally c.args.words.now c.open-seat.new.words let-in below ready.spared;
+      spared = spared g.T.Tally.kind c.args.seats.now (size c.args.shape) c.args.fingerprint c.args.tally c.args.words.now c.open_seat.new.words let-in below ready.spared;
     }

@@ -25,23 +25,23 @@ expanding_like {e} {seats} {z} {bucket} {n} {links} {queue} {head} {tail} {links
     (subst (λ m. Expanding e seats z bucket n links queue head tail links'' m end) (sym q)
     (subst (λ m. Expanding e seats z bucket n links queue head tail m queue' end) (sym l) x))
 
-pub overflow-add-i : goal.overflow-add-i
-overflow-add-i g c = let sound = shape_sound c.args.shape in omega (arith, few_seats sound, inside sound c.requires.reached c.requires.on c.loop-row.row c.loop-row-test.true)
+pub overflow_add-i : goal.overflow_add-i
+overflow_add-i g c = let sound = shape_sound c.args.shape in omega (arith, few_seats sound, inside sound c.requires.reached c.requires.on c.loop-row.row c.loop-row-test.true)
 
-pub offset-bounds-seats-i : goal.offset-bounds-seats-i
-offset-bounds-seats-i g c = omega (arith, inside (shape_sound c.args.shape) c.requires.reached c.requires.on c.loop-row.row c.loop-row-test.true)
+pub offset_bounds-seats-i : goal.offset_bounds-seats-i
+offset_bounds-seats-i g c = omega (arith, inside (shape_sound c.args.shape) c.requires.reached c.requires.on c.loop-row.row c.loop-row-test.true)
 
 pub bounds-seats-i : goal.bounds-seats-i
 bounds-seats-i g c = omega (arith, inside (shape_sound c.args.shape) c.requires.reached c.requires.on c.loop-row.row c.loop-row-test.true)
 
-pub returns-then-is-empty : goal.returns-then-is-empty
-returns-then-is-empty g c =
+pub returns-then-is_empty : goal.returns-then-is_empty
+returns-then-is_empty g c =
     let e = g.T.Tally.kind.empty in
     let xs = c.args.seats.now in
     let i = get_or c.args.queue.now c.args.head 0 * c.args.shape.most + c.loop-row.row in
     let low : i < length xs = omega (arith, inside (shape_sound c.args.shape) c.requires.reached c.requires.on c.loop-row.row c.loop-row-test.true) in
     let read = get_or_read xs i c.index-seats-i.result low c.index-seats-i.is (vacant e) in
-    let empty = (g.met.T.Tally.lawful.empty_told c.index-seats-i.result.tally).0 (sym c.is_empty.ensures.value ∙ c.if-is-empty.true) in
+    let empty = (g.met.T.Tally.lawful.empty_told c.index-seats-i.result.tally).0 (sym c.is_empty.ensures.value ∙ c.if-is_empty.true) in
     record {
       end = c.loop-row.end;
       reached = c.loop-row.invariant.reached;
@@ -62,7 +62,7 @@ loop-row-preserved g c =
     let low : i < length xs = omega (arith, inside sound c.requires.reached c.requires.on c.loop-row.row c.loop-row-test.true) in
     let read : c.index-seats-i.result ≡ at e xs i = get_or_read xs i c.index-seats-i.result low c.index-seats-i.is (vacant e) in
     let filled : Filled e xs i = λ empty.
-    both_ways c.is_empty.result c.if-is-empty.false
+    both_ways c.is_empty.result c.if-is_empty.false
     (c.is_empty.ensures.value ∙ (g.met.T.Tally.lawful.empty_told c.index-seats-i.result.tally).1 (ap (λ (s : Seat g.row.T.Denot). s.tally) read ∙ empty))
     in
     let carry = ap (λ (s : Seat g.row.T.Denot). s.carry) read in

@@ -9,8 +9,8 @@ loop-head-init g c = traversing_none (shape_sound c.args.shape) c.begin-tail.ens
 pub returns-in-Free : goal.returns-in-Free
 returns-in-Free g c = traversing_found (shape_sound c.args.shape) c.loop-head.invariant _ (omega arith) c.in-Free.ensures
 
-pub overflow-add-head : goal.overflow-add-head
-overflow-add-head g c = omega (arith, c.loop-head.invariant.reached.order.few)
+pub overflow_add-head : goal.overflow_add-head
+overflow_add-head g c = omega (arith, c.loop-head.invariant.reached.order.few)
 
 pub loop-head-preserved : goal.loop-head-preserved
 loop-head-preserved g c = traversing_more (shape_sound c.args.shape) c.loop-head.invariant (omega arith) c.in-Full.ensures

@@ -6,8 +6,8 @@ use Rattle.moves.proofs.walk.walk_back.Goals as goal
 pub loop-bucket-init : goal.loop-bucket-init
 loop-bucket-init g c = walking_none (shape_sound c.args.shape) c.requires.chain
 
-pub move-entry-requires : goal.move-entry-requires
-move-entry-requires g c =
+pub move_entry-requires : goal.move_entry-requires
+move_entry-requires g c =
     let sound = shape_sound c.args.shape in
     let long : length c.loop-bucket.seats ≡ c.args.shape.buckets * c.args.shape.most = omega arith in
     let hole = hole_inside sound long c.loop-bucket.invariant in
@@ -15,7 +15,7 @@ move-entry-requires g c =
     (omega arith, omega arith)
 
 pub loop-bucket-preserved : goal.loop-bucket-preserved
-loop-bucket-preserved g c = walking_more (shape_sound c.args.shape) (omega arith) c.loop-bucket.invariant c.loop-bucket-test.true c.move-entry.ensures
+loop-bucket-preserved g c = walking_more (shape_sound c.args.shape) (omega arith) c.loop-bucket.invariant c.loop-bucket-test.true c.move_entry.ensures
 
 pub loop-bucket-smaller : goal.loop-bucket-smaller
 loop-bucket-smaller g c =

@@ -10,20 +10,20 @@ returns-then-n-lt10 t c =
     let one = one_digit c.args.n c.if-n-lt10.true in
     record { next = omega arith; after = one_digit_put c.args.buffer.now c.args.place c.args.n c.if-n-lt10.true (omega arith) }
 
-pub write-decimal-last-requires : goal.write-decimal-last-requires
-write-decimal-last-requires t c = let more = one_digit_more c.args.n c.if-n-lt10.false (omega arith) in (search rules, omega arith)
+pub write_decimal-last-requires : goal.write_decimal-last-requires
+write_decimal-last-requires t c = let more = one_digit_more c.args.n c.if-n-lt10.false (omega arith) in (search rules, omega arith)
 
 pub bounds-buffer-last : goal.bounds-buffer-last
 bounds-buffer-last t c = let more = one_digit_more c.args.n c.if-n-lt10.false (omega arith) in omega arith
 
-pub overflow-add-result-2 : goal.overflow-add-result-2
-overflow-add-result-2 t c = let more = one_digit_more c.args.n c.if-n-lt10.false (omega arith) in omega arith
+pub overflow_add-result-2 : goal.overflow_add-result-2
+overflow_add-result-2 t c = let more = one_digit_more c.args.n c.if-n-lt10.false (omega arith) in omega arith
 
 pub returns : goal.returns
 returns t c =
     let more = one_digit_more c.args.n c.if-n-lt10.false (omega arith) in
-    let written = c.write-decimal-last.ensures in
+    let written = c.write_decimal-last.ensures in
     record {
       next = omega arith;
-      after = last_digit_put c.args.buffer.now _ c.args.place c.write-decimal-last.result c.args.n c.if-n-lt10.false (omega arith) c.requires written.next written.after;
+      after = last_digit_put c.args.buffer.now _ c.args.place c.write_decimal-last.result c.args.n c.if-n-lt10.false (omega arith) c.requires written.next written.after;
     }

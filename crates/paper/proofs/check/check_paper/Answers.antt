@@ -14,32 +14,32 @@ use Rattle.paper.proofs.check.check_paper.Goals as goal
 answers : (paper : List ℕ) (r : Result Header PaperFault) → Bytes paper → r ≡ paper_checked paper → (r ≡ paper_checked paper) × WritesBack paper r
 answers paper r each is = (is, λ h ok. paper_back paper h each (sym is ∙ ok))
 
-pub returns-in-default : goal.returns-in-default
+pub returns-in_default : goal.returns-in_default
 unfolding paper_checked
-returns-in-default c =
-    let a = answers c.args.paper.now (Err Length) (λ i. (c.type-inv.paper i).fits) (grind (arith, nat_tests)) in
+returns-in_default c =
+    let a = answers c.args.paper.now (Err Length) (λ i. (c.type_inv.paper i).fits) (grind (arith, nat_tests)) in
     record { answer = a.0; written_back = a.1 }
 
 pub loop-i-init : goal.loop-i-init
 loop-i-init c = blocks_all _ c.args.paper.now _
 
 pub loop-i-preserved : goal.loop-i-preserved
-loop-i-preserved c = sym (blocks_step _ _ _ _ _ c.loop-i-test.true (sym c.in-ok-check-block.ensures)) ∙ c.loop-i.invariant
+loop-i-preserved c = sym (blocks_step _ _ _ _ _ c.loop-i-test.true (sym c.in_ok-check_block.ensures)) ∙ c.loop-i.invariant
 
-pub returns-in-err-check-block : goal.returns-in-err-check-block
-returns-in-err-check-block c =
-    let p = err_from_is_err_and c.from-residual.result c.from-residual.ensures.1 in
+pub returns-in_err-check_block : goal.returns-in_err-check_block
+returns-in_err-check_block c =
+    let p = err_from_is_err_and c.from_residual.result c.from_residual.ensures.1 in
     let a =
-    answers c.args.paper.now c.from-residual.result (λ i. (c.type-inv.paper i).fits)
+    answers c.args.paper.now c.from_residual.result (λ i. (c.type_inv.paper i).fits)
     (p.1 ∙ ap Err p.2
-    ∙ sym (blocks_step _ _ _ _ _ c.loop-i-test.true (sym c.in-err-check-block.ensures))
+    ∙ sym (blocks_step _ _ _ _ _ c.loop-i-test.true (sym c.in_err-check_block.ensures))
     ∙ c.loop-i.invariant ∙ paper_blocks _ _ _ c.in-Some.ensures c.read-header.ensures) in
     record { answer = a.0; written_back = a.1 }
 
 pub returns : goal.returns
 returns c =
     let a =
-    answers c.args.paper.now _ (λ i. (c.type-inv.paper i).fits)
+    answers c.args.paper.now _ (λ i. (c.type_inv.paper i).fits)
     (sym (blocks_none _ c.args.paper.now _ _ c.loop-i-test.false)
     ∙ c.loop-i.invariant ∙ paper_blocks _ _ _ c.in-Some.ensures c.read-header.ensures) in
     record { answer = a.0; written_back = a.1 }

@@ -10,13 +10,13 @@ loop-i-init c = sym (append-nil _)
 
 pub loop-i-preserved : goal.loop-i-preserved
 loop-i-preserved c =
-    record_next _ c.args.records.now c.loop-i.block _ c.write-record.new.part c.loop-i.i _ _ c.loop-i-test.true c.loop-i.invariant refl c.write-record.ensures (omega arith) (omega arith)
+    record_next _ c.args.records.now c.loop-i.block _ c.write_record.new.part c.loop-i.i _ _ c.loop-i-test.true c.loop-i.invariant refl c.write_record.ensures (omega arith) (omega arith)
 
 pub returns : goal.returns
 unfolding block_bytes
 returns c =
-    c.write-check.ensures
+    c.write_check.ensures
     ∙ ap with_check
     (body_filled c.args.header c.args.place _ c.args.records.now c.loop-i.block _ c.fill.new.self c.loop-i.i _
-    (take_at c.write-front.new.part _ 8 (omega arith) ∙ c.write-front.ensures)
+    (take_at c.write_front.new.part _ 8 (omega arith) ∙ c.write_front.ensures)
     c.loop-i-test.false (omega arith) c.requires.1 c.loop-i.invariant (omega arith) refl (search rules))

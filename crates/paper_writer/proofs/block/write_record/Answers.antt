@@ -7,8 +7,8 @@ use Rattle.paper_writer.proofs.block.write_record.Goals as goal
 pub returns : goal.returns
 returns c =
     let e = c.args.entry.now in
-    let key = c.copy-from-slice.new.self in
+    let key = c.copy_from_slice.new.self in
     let amounts = bytes_of 4 e.packets ++ bytes_of 8 e.octets in
-    record_filled c.args.part.now _ _ key (bytes_of 4 e.packets) (bytes_of 8 e.octets) c.code.result c.requires (omega arith) refl refl c.write-u32.ensures c.write-u64.ensures
+    record_filled c.args.part.now _ _ key (bytes_of 4 e.packets) (bytes_of 8 e.octets) c.code.result c.requires (omega arith) refl refl c.write_u32.ensures c.write_u64.ensures
     ∙ ap (λ n. n ∷ (key ++ amounts)) c.code.ensures
-    ∙ ap (λ k. code_of e.call ∷ (k ++ amounts)) c.copy-from-slice.ensures.after
+    ∙ ap (λ k. code_of e.call ∷ (k ++ amounts)) c.copy_from_slice.ensures.after

@@ -14,15 +14,15 @@ pub returns-then-count-eq0 : goal.returns-then-count-eq0
 unfolding write_checked
 returns-then-count-eq0 c = record { answer = grind (arith, nat_tests); bytes = refl; read_back = λ is. absurd (false≢true is) }
 
-pub returns-in-err-check-contents : goal.returns-in-err-check-contents
-returns-in-err-check-contents c =
+pub returns-in_err-check_contents : goal.returns-in_err-check_contents
+returns-in_err-check_contents c =
     let rs = c.args.records.now in
-    let p = err_from_is_err_and c.from-residual.result c.from-residual.ensures.1 in
-    let refused : is_ok c.from-residual.result ≡ false = ap is_ok p.1 in
+    let p = err_from_is_err_and c.from_residual.result c.from_residual.ensures.1 in
+    let refused : is_ok c.from_residual.result ≡ false = ap is_ok p.1 in
     record {
       answer =
           p.1 ∙ ap Err p.2
-          ∙ ap (λ r. then InBlock r (Ok tt)) c.in-err-check-contents.ensures.answer
+          ∙ ap (λ r. then InBlock r (Ok tt)) c.in_err-check_contents.ensures.answer
           ∙ sym (room_checked (length c.args.buffer.now) c.args.header rs (omega arith) (omega arith) (omega arith));
       bytes = ap (λ b. cond b (paper_bytes c.args.header rs) c.args.buffer.now) (sym refused);
       read_back = λ is. absurd (false≢true (sym refused ∙ is));
@@ -32,13 +32,13 @@ pub returns : goal.returns
 returns c =
     let h = c.args.header in
     let rs = c.args.records.now in
-    let checked = c.in-ok-check-contents.ensures in
+    let checked = c.in_ok-check_contents.ensures in
     let fit = contents_tell h rs _ (checked.held refl) (sym checked.answer) in
     let back = paper_back h rs (omega arith) (omega arith) fit.0 fit.1 in
     record {
       answer =
           ap (λ r. then InBlock r (Ok tt)) checked.answer
           ∙ sym (room_checked (length c.args.buffer.now) h rs (omega arith) (omega arith) (omega arith));
-      bytes = c.write-blocks.ensures;
-      read_back = λ _. subst (λ b. ReadsBack b h rs) (sym c.write-blocks.ensures) back;
+      bytes = c.write_blocks.ensures;
+      read_back = λ _. subst (λ b. ReadsBack b h rs) (sym c.write_blocks.ensures) back;
     }

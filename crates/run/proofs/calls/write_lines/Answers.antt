@@ -20,31 +20,31 @@ loop-record-init g c =
       refl,
     )
 
-pub slice-bounds-call-line-end : goal.slice-bounds-call-line-end
-slice-bounds-call-line-end g c = sym c.loop-record.invariant.1
+pub slice_bounds-call_line-end : goal.slice_bounds-call_line-end
+slice_bounds-call_line-end g c = sym c.loop-record.invariant.1
 
-pub overflow-add-place : goal.overflow-add-place
-overflow-add-place g c = let few = c.loop-record.invariant.0.few in omega arith
+pub overflow_add-place : goal.overflow_add-place
+overflow_add-place g c = let few = c.loop-record.invariant.0.few in omega arith
 
-pub call-line-line-requires : goal.call-line-line-requires
-call-line-line-requires g c = c.loop-record.invariant.1
+pub call_line-line-requires : goal.call_line-line-requires
+call_line-line-requires g c = c.loop-record.invariant.1
 
-pub write-line-at-requires : goal.write-line-at-requires
-write-line-at-requires g c =
+pub write_line-at-requires : goal.write_line-at-requires
+write_line-at-requires g c =
     let going = c.loop-record.invariant.0 in
     let fits = room g.T.Tally.kind (g.R.Rule.meaning c.args.rule.now) g.T.Figured.shown g.T.Figured.made going c.in-Some.record (sym c.in-Some.ensures.gives) c.in-Some.ensures.leaves
-    c.call-line-line.result c.call-line-line.new.table (c.call-line-line.ensures going.book going.keeps) in
+    c.call_line-line.result c.call_line-line.new.table (c.call_line-line.ensures going.book going.keeps) in
     omega arith
 
-pub overflow-add-place-in-Some : goal.overflow-add-place-in-Some
-overflow-add-place-in-Some g c = let few = c.loop-record.invariant.0.few in omega arith
+pub overflow_add-place-in-Some : goal.overflow_add-place-in-Some
+overflow_add-place-in-Some g c = let few = c.loop-record.invariant.0.few in omega arith
 
 pub loop-record-preserved : goal.loop-record-preserved
 loop-record-preserved g c =
     let going = c.loop-record.invariant.0 in (
       going_on g.T.Tally.kind (g.R.Rule.meaning c.args.rule.now) g.T.Figured.shown g.T.Figured.made going c.in-Some.record (sym c.in-Some.ensures.gives) c.in-Some.ensures.leaves
-          c.call-line-line.result c.call-line-line.new.table c.write-line-at.new.out c.write-line-at.result (c.call-line-line.ensures going.book going.keeps)
-          (omega arith) (omega arith) c.write-line-at.ensures.next c.write-line-at.ensures.after,
+          c.call_line-line.result c.call_line-line.new.table c.write_line-at.new.out c.write_line-at.result (c.call_line-line.ensures going.book going.keeps)
+          (omega arith) (omega arith) c.write_line-at.ensures.next c.write_line-at.ensures.after,
       omega arith,
     )
 

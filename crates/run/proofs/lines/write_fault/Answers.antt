@@ -11,14 +11,14 @@ bounds-out-0 c = omega (arith, fault_long c.args.number c.args.block c.args.«re
 pub bounds-out-1 : goal.bounds-out-1
 bounds-out-1 c = simp length-set (omega (arith, fault_long c.args.number c.args.block c.args.«record»))
 
-pub write-figure-at-requires : goal.write-figure-at-requires
-write-figure-at-requires c = simp length-set (omega (arith, fault_long c.args.number c.args.block c.args.«record»))
+pub write_figure-at-requires : goal.write_figure-at-requires
+write_figure-at-requires c = simp length-set (omega (arith, fault_long c.args.number c.args.block c.args.«record»))
 
-pub write-figure-at-requires-2 : goal.write-figure-at-requires-2
-write-figure-at-requires-2 c = omega (arith, fault_long c.args.number c.args.block c.args.«record», length-set (set c.args.out.now 0 70) 1 32, length-set c.args.out.now 0 70)
+pub write_figure-at-requires-2 : goal.write_figure-at-requires-2
+write_figure-at-requires-2 c = omega (arith, fault_long c.args.number c.args.block c.args.«record», length-set (set c.args.out.now 0 70) 1 32, length-set c.args.out.now 0 70)
 
-pub write-figure-requires : goal.write-figure-requires
-write-figure-requires c = omega (arith, fault_long c.args.number c.args.block c.args.«record», length-set (set c.args.out.now 0 70) 1 32, length-set c.args.out.now 0 70)
+pub write_figure-requires : goal.write_figure-requires
+write_figure-requires c = omega (arith, fault_long c.args.number c.args.block c.args.«record», length-set (set c.args.out.now 0 70) 1 32, length-set c.args.out.now 0 70)
 
 pub returns : goal.returns
 unfolding fault_line
@@ -32,12 +32,12 @@ returns c =
     let three = front ++ figure c.args.number 32 in
     let four = three ++ figure c.args.block 32 in
     let done1 : two ≡ put out 0 front = put_on out one two (70 ∷ []) (32 ∷ []) 0 1 (put_byte out 0 70 (omega arith)) (put_byte one 1 32 (omega arith)) refl (omega arith) in
-    let done2 = put_on out two c.write-figure-at.new.out front (figure c.args.number 32) 0 2 done1 c.write-figure-at.ensures.after refl (omega arith) in
-    let done3 = put_on out c.write-figure-at.new.out c.write-figure-at-2.new.out three (figure c.args.block 32) 0 c.write-figure-at.result
-    done2 c.write-figure-at-2.ensures.after (simp length-append (omega arith)) (simp length-append (omega arith)) in
+    let done2 = put_on out two c.write_figure-at.new.out front (figure c.args.number 32) 0 2 done1 c.write_figure-at.ensures.after refl (omega arith) in
+    let done3 = put_on out c.write_figure-at.new.out c.write_figure-at-2.new.out three (figure c.args.block 32) 0 c.write_figure-at.result
+    done2 c.write_figure-at-2.ensures.after (simp length-append (omega arith)) (simp length-append (omega arith)) in
     record {
       next = omega arith;
       after =
-          put_on out c.write-figure-at-2.new.out c.write-figure.new.out four (figure c.args.«record» 10) 0 c.write-figure-at-2.result
-          done3 c.write-figure.ensures.after (simp length-append (omega arith)) (simp length-append (omega arith));
+          put_on out c.write_figure-at-2.new.out c.write_figure.new.out four (figure c.args.«record» 10) 0 c.write_figure-at-2.result
+          done3 c.write_figure.ensures.after (simp length-append (omega arith)) (simp length-append (omega arith));
     }

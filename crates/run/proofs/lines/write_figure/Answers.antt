@@ -4,23 +4,23 @@ use Rattle.run.specs.Lines.{figure}
 use Rattle.run.proofs.Written.{figure_long, put_on}
 use Rattle.run.proofs.lines.write_figure.Goals as goal
 
-pub write-decimal-last-requires : goal.write-decimal-last-requires
-write-decimal-last-requires c = omega (arith, figure_long c.args.n c.args.end)
+pub write_decimal-last-requires : goal.write_decimal-last-requires
+write_decimal-last-requires c = omega (arith, figure_long c.args.n c.args.end)
 
 pub bounds-out-last : goal.bounds-out-last
 bounds-out-last c = omega (arith, figure_long c.args.n c.args.end)
 
-pub overflow-add-result : goal.overflow-add-result
-overflow-add-result c = omega (arith, figure_long c.args.n c.args.end)
+pub overflow_add-result : goal.overflow_add-result
+overflow_add-result c = omega (arith, figure_long c.args.n c.args.end)
 
 pub returns : goal.returns
 unfolding figure
 returns c =
     let long = figure_long c.args.n c.args.end in
-    let done = c.write-decimal-last.ensures in
+    let done = c.write_decimal-last.ensures in
     record {
       next = omega arith;
       after =
-          put_on c.args.out.now c.write-decimal-last.new.buffer _ (decimal c.args.n) (c.args.end ∷ []) c.args.at c.write-decimal-last.result
-          done.after (put_byte c.write-decimal-last.new.buffer c.write-decimal-last.result c.args.end (omega arith)) done.next (omega arith);
+          put_on c.args.out.now c.write_decimal-last.new.buffer _ (decimal c.args.n) (c.args.end ∷ []) c.args.at c.write_decimal-last.result
+          done.after (put_byte c.write_decimal-last.new.buffer c.write_decimal-last.result c.args.end (omega arith)) done.next (omega arith);
     }

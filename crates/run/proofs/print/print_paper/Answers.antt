@@ -9,8 +9,8 @@ use Rattle.run.specs.Runs.{header_for}
 use Rattle.run.proofs.Printing.{fault_short, runs_so, fails_so, printed_is, answered}
 use Rattle.run.proofs.print.print_paper.Goals as goal
 
-pub write-fault-requires : goal.write-fault-requires
-write-fault-requires c =
+pub write_fault-requires : goal.write_fault-requires
+write_fault-requires c =
     let out = c.args.out.now in
     let failed : ◌≡◌ {A = Result Header RunFault} (Err (InPaper c.in-Err-InPaper.fault)) (header_for c.args.paper.now (length out)) = cc c.in-Err-InPaper.ensures in
     let told = fails_so (ltb (length out) 68400) (paper_checked c.args.paper.now) c.in-Err-InPaper.fault failed in
@@ -21,8 +21,8 @@ returns-in-Ok c =
     let out = c.args.out.now in
     let paper = c.args.paper.now in
     let told = runs_so (ltb (length out) 68400) (paper_checked paper) c.in-Ok.header c.in-Ok.ensures in
-    let done = c.write-by-kind.ensures in
-    let both = answered (ltb (length out) 68400) out c.write-by-kind.new.out _ _ c.write-by-kind.result told.0 (printed_is paper (Ok c.in-Ok.header) told.1) done.next done.after in
+    let done = c.write_by_kind.ensures in
+    let both = answered (ltb (length out) 68400) out c.write_by_kind.new.out _ _ c.write_by_kind.result told.0 (printed_is paper (Ok c.in-Ok.header) told.1) done.next done.after in
     record { answer = both.answer; after = both.after }
 
 pub returns-in-Err-InPaper : goal.returns-in-Err-InPaper
@@ -32,9 +32,9 @@ returns-in-Err-InPaper c =
     let fault = c.in-Err-InPaper.fault in
     let failed : ◌≡◌ {A = Result Header RunFault} (Err (InPaper fault)) (header_for paper (length out)) = cc c.in-Err-InPaper.ensures in
     let told = fails_so (ltb (length out) 68400) (paper_checked paper) fault failed in
-    let done = c.write-fault.ensures in
+    let done = c.write_fault.ensures in
     let figures = c.figures-number.ensures in
     let same : fault_line c.from.result c.from-in-Err-InPaper.result c.from-in-Err-InPaper-2.result ≡ fault_line (figures_of fault).0 (figures_of fault).1 (figures_of fault).2 =
     λ i. fault_line ((c.from.ensures ∙ ap (λ (f : ℕ × ℕ × ℕ). f.0) figures) i) ((c.from-in-Err-InPaper.ensures ∙ ap (λ (f : ℕ × ℕ × ℕ). f.1) figures) i) ((c.from-in-Err-InPaper-2.ensures ∙ ap (λ (f : ℕ × ℕ × ℕ). f.2) figures) i) in
-    let both = answered (ltb (length out) 68400) out c.write-fault.new.out _ _ c.write-fault.result told.0 (same ∙ printed_is paper (Err fault) told.1) done.next done.after in
+    let both = answered (ltb (length out) 68400) out c.write_fault.new.out _ _ c.write_fault.result told.0 (same ∙ printed_is paper (Err fault) told.1) done.next done.after in
     record { answer = both.answer; after = both.after }

@@ -28,7 +28,7 @@ returns g c =
     let below : f < z.range = omega arith in
     let Missed : Place → Type 0 = λ p. (i : ℕ) → Lies z p.bucket i → Holds e seats p i → ⊥ in
     let Met : Place → ℕ → Type 0 = λ p i. Lies z p.bucket i × Holds e seats p i in
-    let high : Missed (place_of z.buckets f true) = subst Missed c.place.ensures.value c.in-default.ensures in
+    let high : Missed (place_of z.buckets f true) = subst Missed c.place.ensures.value c.in_default.ensures in
     weaker c.scan-2.result (Missed (place_of z.buckets f false)) ((i : ℕ) → Sits e seats z f i → ⊥) (Met (place_of z.buckets f false)) (λ i. Sits e seats z f i)
     (subst (λ p. MatchOption c.scan-2.result (Missed p) (Met p)) c.place-2.ensures.value c.scan-2.ensures)
     (λ low. sits_nowhere e seats z f (λ flag. elim flag as (λ b. Missed (place_of z.buckets f b)) [ true ↦ high | false ↦ low ]))

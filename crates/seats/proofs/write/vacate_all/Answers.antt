@@ -8,10 +8,10 @@ loop-i-preserved g c =
     let e = g.T.Tally.kind.empty in
     let xs = c.loop-i.seats in
     let i = c.loop-i.i in
-    let s = c.empty-seat.result in
+    let s = c.empty_seat.result in
     below_more _ _
     (λ k h. let apart : k ≢ i = omega arith in get_or-set_other xs i k s (vacant e) apart ∙ c.loop-i.invariant k h)
-    (let inside : i < length xs = omega arith in get_or-set_same xs i s (vacant e) inside ∙ c.empty-seat.ensures)
+    (let inside : i < length xs = omega arith in get_or-set_same xs i s (vacant e) inside ∙ c.empty_seat.ensures)
 
 pub returns : goal.returns
 returns g c =

@@ -2,10 +2,10 @@ use Rattle.std.proofs.Common.{rules}
 use Rattle.paper.specs.Headers.{header_fits}
 use Rattle.paper.proofs.header.Header.fits.Goals as goal
 
-pub returns-then-is-rule : goal.returns-then-is-rule
+pub returns-then-is_rule : goal.returns-then-is_rule
 unfolding header_fits
-returns-then-is-rule c = search rules
+returns-then-is_rule c = search rules
 
-pub returns-else-is-rule : goal.returns-else-is-rule
+pub returns-else-is_rule : goal.returns-else-is_rule
 unfolding header_fits
-returns-else-is-rule c = search rules
+returns-else-is_rule c = search rules

@@ -3,8 +3,8 @@ use Rattle.paper.proofs.Sound.{sound_counted}
 use Rattle.paper.proofs.ToCome.{come_block}
 use Rattle.paper.proofs.reader.Reader.new.Goals as goal
 
-pub invariant-of-result : goal.invariant-of-result
-invariant-of-result c = (c.requires, (omega arith, ((λ inside. (sound_counted c.args.paper.now 0 c.requires).some inside), tt)))
+pub invariant_of-result : goal.invariant_of-result
+invariant_of-result c = record { sound = c.requires; inside = omega arith; within = λ inside. (sound_counted c.args.paper.now 0 c.requires).some inside }
 
 pub returns : goal.returns
 returns c = sym (come_block c.args.paper.now 0)

@@ -28,29 +28,29 @@ returns-then-start-self c =
     let e = come_none s.paper.now s.block s.«record» (omega arith) in
     record { gives = ap first_of (sym e); leaves = e ∙ ap others_of (sym e) }
 
-pub overflow-mul-from : goal.overflow-mul-from
-overflow-mul-from c = let h = here c in omega arith
+pub overflow_mul-from : goal.overflow_mul-from
+overflow_mul-from c = let h = here c in omega arith
 
-pub overflow-add-from-2 : goal.overflow-add-from-2
-overflow-add-from-2 c = let h = here c in omega arith
+pub overflow_add-from-2 : goal.overflow_add-from-2
+overflow_add-from-2 c = let h = here c in omega arith
 
-pub overflow-add-from-3 : goal.overflow-add-from-3
-overflow-add-from-3 c = let h = here (goal.at.overflow-add-from-3 c).Else-start-self in omega arith
+pub overflow_add-from-3 : goal.overflow_add-from-3
+overflow_add-from-3 c = let h = here (goal.at.overflow_add-from-3 c).Else-start-self in omega arith
 
-pub slice-bounds-read-end : goal.slice-bounds-read-end
-slice-bounds-read-end c = let h = here (goal.at.slice-bounds-read-end c).Else-start-self in omega arith
+pub slice_bounds-read-end : goal.slice_bounds-read-end
+slice_bounds-read-end c = let h = here (goal.at.slice_bounds-read-end c).Else-start-self in omega arith
 
-pub overflow-add-self : goal.overflow-add-self
-overflow-add-self c = let h = here (goal.at.overflow-add-self c).Else-start-self in omega arith
+pub overflow_add-self : goal.overflow_add-self
+overflow_add-self c = let h = here (goal.at.overflow_add-self c).Else-start-self in omega arith
 
 pub bounds-self-start : goal.bounds-self-start
 bounds-self-start c = let h = here (goal.at.bounds-self-start c).Else-start-self in omega arith
 
-pub invariant-of-self-else-self-from : goal.invariant-of-self-else-self-from
-invariant-of-self-else-self-from c =
-    let h = here (goal.at.invariant-of-self-else-self-from c).Else-start-self in
+pub invariant_of-self-else-self-from : goal.invariant_of-self-else-self-from
+invariant_of-self-else-self-from c =
+    let h = here (goal.at.invariant_of-self-else-self-from c).Else-start-self in
     let s = c.args.self.now in
-    (s.sound, (omega arith, ((λ low. (sound_counted s.paper.now (s.block + 1) s.sound).some low), tt)))
+    record { sound = s.sound; inside = omega arith; within = λ low. (sound_counted s.paper.now (s.block + 1) s.sound).some low }
 
 pub returns-then-self-from : goal.returns-then-self-from
 returns-then-self-from c =

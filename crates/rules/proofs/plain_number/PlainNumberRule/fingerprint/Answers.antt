@@ -10,12 +10,12 @@ loop-i-init c = (
   omega arith,
 )
 
-pub overflow-mul-number : goal.overflow-mul-number
-overflow-mul-number c = omega (arith, power_low c.loop-i.i c.loop-i.number c.loop-i-test.true c.loop-i.invariant.1)
+pub overflow_mul-number : goal.overflow_mul-number
+overflow_mul-number c = omega (arith, power_low c.loop-i.i c.loop-i.number c.loop-i-test.true c.loop-i.invariant.1)
 
 pub loop-i-preserved : goal.loop-i-preserved
 loop-i-preserved c = (
   omega (arith, number_more c.args.key.now c.loop-i.i c.loop-i.number c.loop-i-test.true (omega arith) c.loop-i.invariant.0),
-  power_more c.loop-i.i c.loop-i.number _ c.loop-i-test.true c.loop-i.invariant.2 c.loop-i.invariant.1 (omega (arith, c.type-inv.key (c.loop-i.i - 1))),
+  power_more c.loop-i.i c.loop-i.number _ c.loop-i-test.true c.loop-i.invariant.2 c.loop-i.invariant.1 (omega (arith, c.type_inv.key (c.loop-i.i - 1))),
   omega arith,
 )

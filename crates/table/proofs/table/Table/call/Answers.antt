@@ -32,10 +32,10 @@ returns-in-Narrow g c =
     record {
       did =
           did_as g.T.Tally.kind (g.R.Rule.meaning c.args.rule.now) c.args.self.now c.narrow.new.self _ _ _ _
-          (ap narrow long ∙ sym (ap (asked (length words)) c.in-Narrow.is)) (sym c.of-rows-in-Narrow.ensures) (c.narrow.ensures.did (g.R.Rule.meaning c.args.rule.now));
+          (ap narrow long ∙ sym (ap (asked (length words)) c.in-Narrow.is)) (sym c.of_rows-in-Narrow.ensures) (c.narrow.ensures.did (g.R.Rule.meaning c.args.rule.now));
       words =
-          subst (λ r. WordsAfter r c.of-rows-in-Narrow.result words (c.narrow.new.words ++ post_of 0 (c.min-some-in-Narrow.result - 0) words)) (sym c.in-Narrow.is) (
-            part_spared _ c.of-rows-in-Narrow.result words c.narrow.new.words c.min-some-in-Narrow.result (sym c.of-rows-in-Narrow.ensures) c.narrow.ensures.words,
+          subst (λ r. WordsAfter r c.of_rows-in-Narrow.result words (c.narrow.new.words ++ post_of 0 (c.min-some-in-Narrow.result - 0) words)) (sym c.in-Narrow.is) (
+            part_spared _ c.of_rows-in-Narrow.result words c.narrow.new.words c.min-some-in-Narrow.result (sym c.of_rows-in-Narrow.ensures) c.narrow.ensures.words,
             part_past words c.narrow.new.words c.min-some-in-Narrow.result c.in-Narrow.many c.min-some-in-Narrow.ensures c.narrow.auto.words,
           );
     }

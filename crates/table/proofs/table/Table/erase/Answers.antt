@@ -11,7 +11,7 @@ pub returns-in-Some : goal.returns-in-Some
 returns-in-Some g c =
     erased_some g.T.Tally.kind (g.R.Rule.meaning c.args.rule.now) c.args.self.now c.args.key.now c.fingerprint.result
     (le-ltb 64 (length c.args.key.now) c.if-key-gt-LONGEST.false) c.fingerprint.ensures.value
-    _ c.in-Some.i c.vacate-tally.result c.in-Some.ensures c.vacate-tally.ensures.value c.vacate-tally.ensures.after refl c.saturating-sub-self.ensures refl
+    _ c.in-Some.i c.vacate-tally.result c.in-Some.ensures c.vacate-tally.ensures.value c.vacate-tally.ensures.after refl c.saturating_sub-self.ensures refl
 
 pub returns-in-None : goal.returns-in-None
 returns-in-None g c =

@@ -3,15 +3,15 @@ use Rattle.std.proofs.lemmas.Bool.{le-ltb}
 use Rattle.table.proofs.Reading.{reads_none, reads_some, sits_inside, looked_up}
 use Rattle.table.proofs.table.Table.look_up.Goals as goal
 
-pub tally-of-requires : goal.tally-of-requires
-tally-of-requires g c = sits_inside g.T.Tally.kind c.args.self.now c.fingerprint.result c.in-Some.i c.in-Some.ensures
+pub tally_of-requires : goal.tally_of-requires
+tally_of-requires g c = sits_inside g.T.Tally.kind c.args.self.now c.fingerprint.result c.in-Some.i c.in-Some.ensures
 
 pub returns-in-Some : goal.returns-in-Some
 returns-in-Some g c =
     let k = g.T.Tally.kind in
     let rule = g.R.Rule.meaning c.args.rule.now in
     looked_up k rule c.args.self.now c.args.key.now c.fingerprint.result _ (le-ltb 64 (length c.args.key.now) c.if-key-gt-LONGEST.false) c.fingerprint.ensures.value
-    (reads_some k c.args.self.now c.fingerprint.result c.in-Some.i c.tally-of.result c.in-Some.ensures c.tally-of.ensures)
+    (reads_some k c.args.self.now c.fingerprint.result c.in-Some.i c.tally_of.result c.in-Some.ensures c.tally_of.ensures)
 
 pub returns-in-None : goal.returns-in-None
 returns-in-None g c =
