@@ -24,28 +24,28 @@ pub enum Answer<T> {
 }
 
 impl<T> Answer<T> {
-    pub fn of_tally(res: Result<T, Refusal>) -> Answer<T>
-        ensures { result ≡ of_tally res }
+    pub fn of_tally(outcome: Result<T, Refusal>) -> Answer<T>
+        ensures { result ≡ of_tally outcome }
     {
-        match res {
+        match outcome {
             Ok(tally) => Answer::Tallied(tally),
             Err(refusal) => Answer::Refused(refusal),
         }
     }
 
-    pub fn of_held(res: Result<Option<T>, Refusal>) -> Answer<T>
-        ensures { result ≡ of_held res }
+    pub fn of_held(outcome: Result<Option<T>, Refusal>) -> Answer<T>
+        ensures { result ≡ of_held outcome }
     {
-        match res {
+        match outcome {
             Ok(tally) => Answer::Held(tally),
             Err(refusal) => Answer::Refused(refusal),
         }
     }
 
-    pub fn of_rows(res: Result<Rows, Refusal>) -> Answer<T>
-        ensures { result ≡ of_rows res }
+    pub fn of_rows(outcome: Result<Rows, Refusal>) -> Answer<T>
+        ensures { result ≡ of_rows outcome }
     {
-        match res {
+        match outcome {
             Ok(rows) => Answer::Sized(rows),
             Err(refusal) => Answer::Refused(refusal),
         }

@@ -9,8 +9,8 @@ use table::table::Table;
 use tallies::replicas::Replicas;
 
 // The number of a refusal, or 0.
-fn number_of<X: Drop>(res: Result<X, Refusal>) -> u64 {
-    match res {
+fn number_of<X: Drop>(outcome: Result<X, Refusal>) -> u64 {
+    match outcome {
         Ok(_) => 0,
         Err(refusal) => u64::from(refusal.number()),
     }

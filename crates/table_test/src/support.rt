@@ -11,8 +11,8 @@ pub fn stale() -> Seat<Replicas> {
     }
 }
 
-pub fn number_of<X: Drop>(res: Result<X, Refusal>) -> u8 {
-    match res {
+pub fn number_of<X: Drop>(outcome: Result<X, Refusal>) -> u8 {
+    match outcome {
         Ok(_) => 0,
         Err(refusal) => refusal.number(),
     }

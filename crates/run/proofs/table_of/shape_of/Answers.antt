@@ -5,4 +5,4 @@ use Rattle.run.proofs.table_of.shape_of.Goals as goal
 pub invariant_of-result : goal.invariant_of-result
 invariant_of-result c =
     let fit = shape_limits c.args.header c.requires in
-    ((omega arith, omega arith, omega arith, omega arith, omega arith), tt)
+    record { ok = (omega arith, omega arith, omega arith, omega arith, omega arith) }
