@@ -1,4 +1,5 @@
 // Compares worked figures with what the code gives, and prints each with what was expected and what came.
+#![tactic(auto)]
 
 mod fingerprints;
 mod opening;

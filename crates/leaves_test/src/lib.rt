@@ -1,3 +1,5 @@
+#![tactic(auto)]
+
 // Tests of numbers, rules and tallies on examples.
 #[cfg(test)]
 mod fnv_tests;

@@ -1,4 +1,6 @@
 // Narrowing: the last row in use of every bucket is cleared, its entries seated in the rows below.
+#![tactic(auto)]
+
 ghost use Rattle.std.specs.Prelude.{◌≡◌, ◌*◌, ◌<◌, ◌≤◌, length, None, MatchOption, ◌≢◌};
 ghost use Rattle.seats.specs.Shapes.{size};
 ghost use Rattle.seats.specs.Places.{given_back};

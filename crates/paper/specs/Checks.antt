@@ -1,5 +1,5 @@
 -- What the check of a block and of a paper answers, each fault in its turn. Assumes nothing.
-use Rattle.std.specs.Prelude.{ℕ, zero, suc, ◌+◌, ◌-◌, ◌*◌, ◌/◌, Bool, true, false, cond, ◌&&◌, List, [], ◌∷◌, length, drop, Some, None, Ok, Err, Option, Result, ◌==◌, nat_le, nat_lt, slice_index, slice_range}
+use Rattle.std.specs.Prelude.{ℕ, suc, ◌+◌, ◌-◌, ◌*◌, ◌/◌, Bool, true, false, cond, ◌&&◌, List, [], ◌∷◌, length, drop, Some, None, Ok, Err, Option, Result, ◌==◌, nat_le, nat_lt, slice_index, slice_range}
 use Rattle.blocks.specs.Blocks.{is_length, blocks_in, check_holds}
 use Rattle.blocks.specs.Faults.{in_record, then}
 use Rattle.blocks.specs.Pieces.{pieces}

@@ -1,5 +1,5 @@
 -- The records of a paper: 26 bytes each, a call with its key and its amounts. Assumes nothing.
-use Rattle.std.specs.Prelude.{◌≡◌, ℕ, zero, suc, ◌^◌, ◌<◌, Bool, true, false, cond, not, ◌&&◌, ◌||◌, List, [], ◌∷◌, ◌++◌, length, take, drop, is_some, Some, None, Option, ◌==◌, nat_le, slice_index}
+use Rattle.std.specs.Prelude.{◌≡◌, ℕ, suc, ◌^◌, ◌<◌, Bool, true, false, cond, not, ◌&&◌, ◌||◌, List, [], ◌∷◌, ◌++◌, length, take, drop, is_some, Some, None, Option, ◌==◌, nat_le, slice_index}
 use Rattle.numbers.specs.LittleEndian.{number_at, bytes_of}
 use Rattle.tallies.specs.Replicas.{replicas_number}
 use Rattle.paper.specs.declared.«record».Call.{Call}

@@ -12,7 +12,6 @@ use Rattle.blocks.specs.Pieces.{pieces}
 use Rattle.blocks.proofs.Bytes.{number_back}
 use Rattle.blocks.proofs.Checks.{check_read_back, length_with_check}
 use Rattle.blocks.proofs.Pieces.{even_joined, joined_map, length_even}
-use Rattle.blocks.specs.declared.fault.BlockFault.TheVariants as fault
 use Rattle.paper.specs.Headers.{header_bytes, header_fits, header_of, same_header}
 use Rattle.paper.specs.Records.{Held, call_of, code_of, first_nonzero, is_code, record_bytes, record_fits, record_of}
 use Rattle.paper.specs.Checks.{block_checked, count_fits, front_fits, part_fits, records_checked, stray, zeros_checked}

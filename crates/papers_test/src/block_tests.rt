@@ -18,7 +18,10 @@ fn a_check_is_written_and_holds(rt: HostRuntime) {
     let mut block = [0; 512];
     assert!(rt; !check_holds(&block));
     write_check(&mut block);
-    assert_eq!(rt; &block[504..512], [133, 200, 138, 7, 151, 67, 1, 82].as_slice());
+    assert_eq!(rt;
+        &block[504..512],
+        [133, 200, 138, 7, 151, 67, 1, 82].as_slice()
+    );
     assert!(rt; check_holds(&block));
     block[503] = 1;
     assert!(rt; !check_holds(&block));

@@ -1,3 +1,5 @@
+#![tactic(auto)]
+
 // Tests of blocks, papers and the writer of papers on examples.
 #[cfg(test)]
 mod block_tests;

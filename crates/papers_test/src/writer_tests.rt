@@ -16,7 +16,10 @@ fn the_smallest_paper(rt: HostRuntime) {
     );
     assert_eq!(rt; &paper[0..9], [0, 1, 1, 8, 2, 2, 1, 0, 1].as_slice());
     assert_eq!(rt; &paper[9..22], KEY.as_slice());
-    assert_eq!(rt; &paper[22..34], [1, 2, 3, 4, 1, 2, 3, 4, 5, 6, 7, 8].as_slice());
+    assert_eq!(rt;
+        &paper[22..34],
+        [1, 2, 3, 4, 1, 2, 3, 4, 5, 6, 7, 8].as_slice()
+    );
     assert_eq!(rt; &paper[34..504], [0; 470].as_slice());
     assert_eq!(rt; figures_of(&paper), SOUND);
 }
@@ -28,7 +31,10 @@ fn the_largest_paper(rt: HostRuntime) {
         figures_of_writing(TRAFFIC, &[post(1, 9); MOST_RECORDS], &mut paper),
         SOUND
     );
-    assert_eq!(rt; &paper[50688..50697], [0, 1, 1, 8, 2, 2, 19, 99, 1].as_slice());
+    assert_eq!(rt;
+        &paper[50688..50697],
+        [0, 1, 1, 8, 2, 2, 19, 99, 1].as_slice()
+    );
     assert_eq!(rt; figures_of(&paper), SOUND);
 }
 

@@ -1,4 +1,6 @@
 // A list of requests, made one after another on a table, and the theorem over such runs.
+#![tactic(auto)]
+
 ghost use Rattle.std.specs.Prelude.{◌≡◌, ◌<◌, min, length, take, drop, slice_set};
 ghost use Rattle.replay.specs.Account.{Account};
 ghost use Rattle.replay.specs.Replayed.{all_asked, Replayed};

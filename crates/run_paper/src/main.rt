@@ -1,4 +1,6 @@
 // Reads a paper from standard input, runs it, and prints a line for each of its calls, or the line of its fault.
+#![tactic(auto)]
+
 use blocks::block::{BLOCK, MOST_BLOCKS};
 use run::print::{MOST_PRINTED, print_paper};
 use std::io;

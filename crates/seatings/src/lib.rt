@@ -1,6 +1,8 @@
 // Seatings of fingerprints in buckets: the theorems that a table of fingerprints rests on. A seating gives each held
 // fingerprint its quotient's or its remainder's bucket, and no bucket more than its rows. Each function here does
 // nothing: its contract is the theorem.
+#![tactic(auto)]
+
 ghost use Rattle.std.specs.Prelude.{◌≡◌, ℕ, ◌<◌, ◌≤◌, Bool, true, Decides};
 ghost use Rattle.seatings.specs.Counts.{count};
 ghost use Rattle.seatings.specs.Seatings.{Seating, seatable, also};

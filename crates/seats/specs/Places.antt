@@ -1,5 +1,5 @@
 -- Where a fingerprint may sit, in m buckets, and what a place gives back. Assumes nothing.
-use Rattle.std.specs.Prelude.{ℕ, ◌+◌, ◌*◌, ◌/◌, ◌%◌, Bool, true, false, cond}
+use Rattle.std.specs.Prelude.{ℕ, ◌+◌, ◌*◌, ◌/◌, ◌%◌, Bool, cond}
 use Rattle.seats.specs.declared.place.Place.{Place}
 
 -- the bucket f / m with carry f % m at flag true, and the bucket f % m with carry f / m at flag false

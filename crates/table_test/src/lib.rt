@@ -1,3 +1,5 @@
+#![tactic(auto)]
+
 // Tests of the table: opening, refusals with what they leave, chains of moves, and a whole list of calls.
 #[cfg(test)]
 mod chains;

@@ -1,4 +1,4 @@
-use Rattle.std.proofs.Common.{◌-◌, sym, refl, ap, ◌∙◌, append-nil, arith, rules}
+use Rattle.std.proofs.Common.{sym, refl, ap, ◌∙◌, append-nil, arith, rules}
 use Rattle.std.proofs.lemmas.List.{take_at}
 use Rattle.paper.specs.Writing.{block_bytes}
 use Rattle.blocks.specs.Blocks.{with_check}
