@@ -1,6 +1,6 @@
 -- Numbers in bytes, there and back, and bytes within bytes. Assumes nothing.
 use Rattle.std.proofs.Common.{◌≡◌, ℕ, zero, suc, ◌+◌, ◌*◌, ◌/◌, ◌%◌, ◌^◌, ◌<◌, ◌≤◌, List, [], ◌∷◌, length, get_or, take, drop, sym, refl, ap, ◌∙◌, ⊎_elim, pow-suc, arith, length-drop, length-take}
-use Rattle.std.specs.List.{AllByRecursion as All}
+use Rattle.std.specs.List.{AllByRecursion}
 use Rattle.std.proofs.lemmas.List.{get_or-take, get_or-drop, get_or_past}
 use Rattle.std.proofs.lemmas.Bool.{cases_lt}
 use Rattle.numbers.specs.LittleEndian.{number, number_at, bytes_of}
@@ -44,6 +44,6 @@ part_back bytes place width room each =
     let long : length part ≡ width = length-take width (drop place bytes) ∙ omega (arith, length-drop place bytes) in
     ap (λ n. bytes_of n (number part)) (sym long) ∙ bytes_back part (take_bytes (drop place bytes) width (drop_bytes bytes place each))
 
-pub pieces_bytes : (width n : ℕ) (bytes : List ℕ) → Bytes bytes → All Bytes (pieces width n bytes)
+pub pieces_bytes : (width n : ℕ) (bytes : List ℕ) → Bytes bytes → AllByRecursion Bytes (pieces width n bytes)
 pieces_bytes width zero bytes each = tt
 pieces_bytes width (suc n) bytes each = (take_bytes bytes width each, pieces_bytes width n (drop width bytes) (drop_bytes bytes width each))

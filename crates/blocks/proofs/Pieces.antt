@@ -1,6 +1,6 @@
 -- Pieces of a list: one more of them, the piece in a place, and the list put together again. Assumes nothing.
 use Rattle.std.proofs.Common.{◌≡◌, ℕ, zero, suc, ◌+◌, ◌-◌, ◌*◌, ◌<◌, ◌≤◌, List, [], ◌∷◌, ◌++◌, map, length, get_or, take, drop, sym, refl, ap, ◌∙◌, append_assoc, append-nil, arith, length-append, length-drop, length-take, take-add}
-use Rattle.std.specs.List.{flat_map, AllByRecursion as All}
+use Rattle.std.specs.List.{flat_map, AllByRecursion}
 use Rattle.std.proofs.ByRecursion.{All-take, All-drop}
 use Rattle.std.proofs.lemmas.List.{drop-drop, take_all, take_at, drop_at}
 use Rattle.blocks.specs.Pieces.{pieces}
@@ -32,13 +32,13 @@ joined_pieces width (suc n) xs =
     let long : width + width * n ≡ width * suc n = omega arith in
     ap (λ l. take width xs ++ l) (joined_pieces width n (drop width xs)) ∙ sym (take-add width (width * n) xs) ∙ ap (λ k. take k xs) long
 
-pub pieces_even : {X : Type 0} (width n : ℕ) (xs : List X) → width * n ≤ length xs → All (λ (p : List X). length p ≡ width) (pieces width n xs)
+pub pieces_even : {X : Type 0} (width n : ℕ) (xs : List X) → width * n ≤ length xs → AllByRecursion (λ (p : List X). length p ≡ width) (pieces width n xs)
 pieces_even width zero xs room = tt
 pieces_even width (suc n) xs room =
     let long : width + width * n ≡ width * suc n = omega arith in
     (length-take width xs ∙ omega arith, pieces_even width n (drop width xs) (omega (arith, length-drop width xs)))
 
-pub pieces_all : {X : Type 0} (P : X → Type 0) (width n : ℕ) (xs : List X) → All P xs → All (All P) (pieces width n xs)
+pub pieces_all : {X : Type 0} (P : X → Type 0) (width n : ℕ) (xs : List X) → AllByRecursion P xs → AllByRecursion (AllByRecursion P) (pieces width n xs)
 pieces_all P width zero xs each = tt
 pieces_all P width (suc n) xs each = (All-take P width xs each, pieces_all P width n (drop width xs) (All-drop P width xs each))
 
@@ -47,7 +47,7 @@ joined_map f [] = refl
 joined_map f (x ∷ xs) = ap (λ l. f x ++ l) (joined_map f xs)
 
 -- pieces of one length, with something behind them
-pub even_joined : {X : Type 0} (width : ℕ) (ps : List (List X)) (rest : List X) → All (λ (p : List X). length p ≡ width) ps →
+pub even_joined : {X : Type 0} (width : ℕ) (ps : List (List X)) (rest : List X) → AllByRecursion (λ (p : List X). length p ≡ width) ps →
     pieces width (length ps) (flat_map (λ (p : List X). p) ps ++ rest) ≡ ps
 even_joined width [] rest even = refl
 even_joined width (p ∷ ps) rest even =
@@ -56,7 +56,7 @@ even_joined width (p ∷ ps) rest even =
     ∙ (λ i. take_at p behind width even.0 i ∷ pieces width (length ps) (drop_at p behind width even.0 i))
     ∙ ap (λ l. p ∷ l) (even_joined width ps rest even.1)
 
-pub length_even : {X : Type 0} (width : ℕ) (ps : List (List X)) → All (λ (p : List X). length p ≡ width) ps → length (flat_map (λ (p : List X). p) ps) ≡ width * length ps
+pub length_even : {X : Type 0} (width : ℕ) (ps : List (List X)) → AllByRecursion (λ (p : List X). length p ≡ width) ps → length (flat_map (λ (p : List X). p) ps) ≡ width * length ps
 length_even width [] even = omega arith
 length_even width (p ∷ ps) even =
     let e = length-append p (flat_map (λ p. p) ps) in

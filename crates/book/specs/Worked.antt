@@ -1,6 +1,6 @@
 -- Worked cases of the rules, as one table: a figure that the definitions compute, and what it should be. Assumes nothing.
 use Rattle.std.specs.Prelude.{◌≡◌, ℕ, suc, true, false, List, [], ◌∷◌, ◌++◌, map}
-use Rattle.std.specs.List.{AllByRecursion as All}
+use Rattle.std.specs.List.{AllByRecursion}
 use Rattle.seatings.specs.Counts.{bit}
 use Rattle.tallies.specs.Replicas.{replicas, replicas_kind}
 use Rattle.tallies.specs.Traffic.{traffic, traffic_kind}
@@ -56,4 +56,4 @@ abbrev pub Holds : Case → Type 0
 Holds c = c.figure ≡ c.should_be
 
 abbrev pub WorkedCasesHold : Type 0
-WorkedCasesHold = All Holds cases
+WorkedCasesHold = AllByRecursion Holds cases

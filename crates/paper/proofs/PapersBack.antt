@@ -1,6 +1,6 @@
 -- A sound paper, read and written again. Assumes nothing.
 use Rattle.std.proofs.Common.{◌≡◌, ℕ, suc, ◌*◌, ◌/◌, ◌%◌, ltb, leb, List, [], ◌∷◌, map, length, get_or, Ok, sym, refl, ap, ◌∙◌, arith}
-use Rattle.std.specs.List.{flat_map, AllByRecursion as All}
+use Rattle.std.specs.List.{flat_map, AllByRecursion}
 use Rattle.std.proofs.lemmas.List.{take_all}
 use Rattle.std.proofs.lemmas.Bool.{and_parts, eqb-true}
 use Rattle.blocks.specs.Blocks.{blocks_in}
@@ -16,7 +16,7 @@ use Rattle.paper.specs.declared.«record».Record.{Record}
 use Rattle.paper.proofs.BlocksBack.{block_back, length_block_records}
 use Rattle.paper.proofs.Sound.{blocks_tell, paper_tells}
 
-blocks_back : (first : Header) (i : ℕ) (bs : List (List ℕ)) (h : Header) → All (λ b. length b ≡ 512) bs → All Bytes bs → blocks_checked first i bs ≡ Ok h →
+blocks_back : (first : Header) (i : ℕ) (bs : List (List ℕ)) (h : Header) → AllByRecursion (λ b. length b ≡ 512) bs → AllByRecursion Bytes bs → blocks_checked first i bs ≡ Ok h →
     (blocks_bytes first i (map block_records bs) ≡ bs) × (first ≡ h)
 blocks_back first i [] h long each sound = (refl, cc)
 blocks_back first i (b ∷ bs) h long each sound =

@@ -1,6 +1,6 @@
 -- A record's bytes, read and written again. Assumes nothing.
 use Rattle.std.proofs.Common.{◌≡◌, ℕ, suc, true, List, [], ◌∷◌, ◌++◌, map, length, get_or, take, drop, Ok, sym, refl, ap, ◌∙◌, arith, length-drop, take-append-drop}
-use Rattle.std.specs.List.{flat_map, AllByRecursion as All}
+use Rattle.std.specs.List.{flat_map, AllByRecursion}
 use Rattle.std.proofs.lemmas.List.{drop-drop, take_all}
 use Rattle.std.proofs.lemmas.Bool.{and_parts}
 use Rattle.std.proofs.lemmas.Bool.Decides.{nat_tests}
@@ -24,7 +24,7 @@ record_back (x ∷ ys) long each is =
     ∙ ap (λ t. x ∷ (take 13 ys ++ t)) middle
     ∙ ap (λ t. x ∷ t) (take-append-drop 13 ys)
 
-pub records_back : (kind place i : ℕ) (parts : List (List ℕ)) → All (λ p. length p ≡ 26) parts → All Bytes parts → records_checked kind place i parts ≡ Ok tt →
+pub records_back : (kind place i : ℕ) (parts : List (List ℕ)) → AllByRecursion (λ p. length p ≡ 26) parts → AllByRecursion Bytes parts → records_checked kind place i parts ≡ Ok tt →
     flat_map record_bytes (map record_of parts) ≡ flat_map (λ (p : List ℕ). p) parts
 records_back kind place i [] long each sound = refl
 records_back kind place i (p ∷ ps) long each sound =

@@ -1,6 +1,6 @@
 -- What is written of a fit header and fit records is a sound paper, and is read as the same. Assumes nothing.
 use Rattle.std.proofs.Common.{◌≡◌, ℕ, suc, ◌-◌, ◌*◌, ◌/◌, ◌<◌, ◌≤◌, true, false, cond, ◌&&◌, leb, List, [], ◌∷◌, ◌++◌, length, take, drop, Ok, Err, sym, refl, ap, ◌∙◌, append-nil, arith}
-use Rattle.std.specs.List.{flat_map, AllByRecursion as All}
+use Rattle.std.specs.List.{flat_map, AllByRecursion}
 use Rattle.std.proofs.lemmas.List.{take_all}
 use Rattle.std.proofs.lemmas.Bool.{eq-eqb}
 use Rattle.std.proofs.lemmas.Bool.Decides.{nat_tests}
@@ -22,9 +22,9 @@ use Rattle.paper_writer.proofs.ReadBack.{Fit, block_read_back, header_begins, le
 record Back (h : Header) (i : ℕ) (rss : List (List Record)) : Type 0 where
   sound : blocks_checked h i (blocks_bytes h i rss) ≡ Ok h
   same : flat_map block_records (blocks_bytes h i rss) ≡ flat_map (λ (rs : List Record). rs) rss
-  even : All (λ (b : List ℕ). length b ≡ 512) (blocks_bytes h i rss)
+  even : AllByRecursion (λ (b : List ℕ). length b ≡ 512) (blocks_bytes h i rss)
 
-blocks_back : (h : Header) (i : ℕ) (rss : List (List Record)) → header_fits h ≡ true → Full 19 rss → All (All (Fit h.kind)) rss → Back h i rss
+blocks_back : (h : Header) (i : ℕ) (rss : List (List Record)) → header_fits h ≡ true → Full 19 rss → AllByRecursion (AllByRecursion (Fit h.kind)) rss → Back h i rss
 blocks_back h i [] fits full fit = record { sound = refl; same = refl; even = tt }
 blocks_back h i (rs ∷ []) fits full fit =
     let some = full.0 in
@@ -57,7 +57,7 @@ sound_from paper h bs long head cut sound =
 
 -- the groups of records are one more than m
 paper_back_of : (h : Header) (records : List Record) (m : ℕ) → blocks_for (length records) ≡ suc m → length records ≤ 1900 → 19 * m < length records → length records ≤ 19 * suc m →
-    header_fits h ≡ true → All (Fit h.kind) records → ReadsBack (paper_bytes h records) h records
+    header_fits h ≡ true → AllByRecursion (Fit h.kind) records → ReadsBack (paper_bytes h records) h records
 unfolding paper_bytes
 paper_back_of h records m groups most more room fits fit =
     let rss = pieces 19 (suc m) records in
@@ -75,7 +75,7 @@ paper_back_of h records m groups most more room fits fit =
     ap (flat_map block_records) cut ∙ back.same ∙ joined_pieces 19 (suc m) records ∙ take_all (19 * suc m) records room in
     (ap paper_checked is ∙ sound_from all h bs fitting head cut back.sound, ap paper_records is ∙ same)
 
-pub paper_back : (h : Header) (records : List Record) → 1 ≤ length records → length records ≤ 1900 → header_fits h ≡ true → All (Fit h.kind) records → ReadsBack (paper_bytes h records) h records
+pub paper_back : (h : Header) (records : List Record) → 1 ≤ length records → length records ≤ 1900 → header_fits h ≡ true → AllByRecursion (Fit h.kind) records → ReadsBack (paper_bytes h records) h records
 paper_back h records some most fits fit =
     let m = (length records - 1) / 19 in
     paper_back_of h records m (omega arith) most (omega arith) (omega arith) fits fit

@@ -1,7 +1,7 @@
 -- What is written of fit records is found fit, and read as the same. Assumes nothing.
 use Rattle.std.proofs.Common.{◌≡◌, ℕ, zero, suc, ◌+◌, ◌-◌, ◌*◌, ◌/◌, ◌%◌, ◌≤◌, Bool, true, cond, leb, List, [], ◌∷◌, ◌++◌, map, length, get_or, take, drop, replicate, None, Ok, Err, sym, refl, ap, ◌∙◌, append_assoc, arith, length-append}
 use lib.ListN.{length-map}
-use Rattle.std.specs.List.{flat_map, AllByRecursion as All}
+use Rattle.std.specs.List.{flat_map, AllByRecursion}
 use Rattle.std.proofs.ByRecursion.{All-map, All-weaker}
 use Rattle.std.proofs.lemmas.List.{drop_at, drop-drop, length-replicate, take_at}
 use Rattle.std.proofs.lemmas.Bool.{and_from, and_parts, eq-eqb, leb-true}
@@ -47,14 +47,14 @@ Fit kind r = Held r × (record_fits kind r ≡ true)
 length_record : (r : Record) → Held r → length (record_bytes r) ≡ 26
 length_record r held = ap suc (length-append r.key _) ∙ omega (arith, held.0)
 
-records_fit : (kind place i : ℕ) (records : List Record) → All (Fit kind) records → records_checked kind place i (map record_bytes records) ≡ Ok tt
+records_fit : (kind place i : ℕ) (records : List Record) → AllByRecursion (Fit kind) records → records_checked kind place i (map record_bytes records) ≡ Ok tt
 records_fit kind place i [] fit = refl
 records_fit kind place i (r ∷ rs) fit =
     let one : part_fits kind (record_bytes r) ≡ true = and_from _ _ (call_back r.call).1 (ap (record_fits kind) (record_back r fit.0.0) ∙ fit.0.1) in
     ap (λ t. cond t (records_checked kind place (suc i) (map record_bytes rs)) (Err (record { block = place; «record» = i + 1 }))) one
     ∙ records_fit kind place (suc i) rs fit.1
 
-records_same : (kind : ℕ) (records : List Record) → All (Fit kind) records → map record_of (map record_bytes records) ≡ records
+records_same : (kind : ℕ) (records : List Record) → AllByRecursion (Fit kind) records → map record_of (map record_bytes records) ≡ records
 records_same kind [] fit = refl
 records_same kind (r ∷ rs) fit = λ k. record_back r fit.0.0 k ∷ records_same kind rs fit.1 k
 
@@ -98,14 +98,14 @@ block_laid h place records =
     append_assoc (header_bytes h) (length records ∷ place ∷ (flat_map record_bytes records ++ blank records)) (check_of h place records)
     ∙ ap (λ l. header_bytes h ++ (length records ∷ place ∷ l)) (append_assoc (flat_map record_bytes records) (blank records) (check_of h place records))
 
-even_records : (kind : ℕ) (records : List Record) → All (Fit kind) records → All (λ (p : List ℕ). length p ≡ 26) (map record_bytes records)
+even_records : (kind : ℕ) (records : List Record) → AllByRecursion (Fit kind) records → AllByRecursion (λ (p : List ℕ). length p ≡ 26) (map record_bytes records)
 even_records kind records fit = All-map (λ (p : List ℕ). length p ≡ 26) record_bytes records (All-weaker (Fit kind) _ (λ r f. length_record r f.0) records fit)
 
-length_records : (kind : ℕ) (records : List Record) → All (Fit kind) records → length (flat_map record_bytes records) ≡ 26 * length records
+length_records : (kind : ℕ) (records : List Record) → AllByRecursion (Fit kind) records → length (flat_map record_bytes records) ≡ 26 * length records
 length_records kind records fit =
     ap length (joined_map record_bytes records) ∙ length_even 26 (map record_bytes records) (even_records kind records fit) ∙ ap (λ n. 26 * n) (length-map records record_bytes)
 
-parts_laid : (kind : ℕ) (records : List Record) (rest : List ℕ) → All (Fit kind) records → pieces 26 (length records) (flat_map record_bytes records ++ rest) ≡ map record_bytes records
+parts_laid : (kind : ℕ) (records : List Record) (rest : List ℕ) → AllByRecursion (Fit kind) records → pieces 26 (length records) (flat_map record_bytes records ++ rest) ≡ map record_bytes records
 parts_laid kind records rest fit =
     (λ i. pieces 26 (sym (length-map records record_bytes) i) (joined_map record_bytes records i ++ rest))
     ∙ even_joined 26 (map record_bytes records) rest (even_records kind records fit)
@@ -116,7 +116,7 @@ front_laid h place last records rest fits count =
     let same = header_back h (length records ∷ place ∷ (flat_map record_bytes records ++ rest)) fits in
     and_from _ _ (ap header_fits same ∙ fits) (and_from _ _ (ap (λ g. same_header g h) same ∙ same_self h) (and_from _ _ count (eq-eqb place place refl)))
 
-zeros_laid : (kind : ℕ) (h : Header) (place : ℕ) (records : List Record) (check : List ℕ) → All (Fit kind) records → length records ≤ 19 →
+zeros_laid : (kind : ℕ) (h : Header) (place : ℕ) (records : List Record) (check : List ℕ) → AllByRecursion (Fit kind) records → length records ≤ 19 →
     zeros_checked place (8 + 26 * length records) (laid h place records (blank records ++ check)) ≡ Ok tt
 zeros_laid kind h place records check fit few =
     let n = length records in
@@ -127,14 +127,14 @@ zeros_laid kind h place records check fit few =
     ∙ ap (λ l. stray place (8 + 26 * n) (first_nonzero 0 l)) (take_at (blank records) check (504 - (8 + 26 * n)) lz)
     ∙ ap (stray place (8 + 26 * n)) (all_zeros (496 - 26 * n) 0)
 
-length_body : (h : Header) (place : ℕ) (records : List Record) → All (Fit h.kind) records → length records ≤ 19 → length (block_body h place records) ≡ 504
+length_body : (h : Header) (place : ℕ) (records : List Record) → AllByRecursion (Fit h.kind) records → length records ≤ 19 → length (block_body h place records) ≡ 504
 length_body h place records fit few =
     let j = length_records h.kind records fit in
     let z : length (blank records) ≡ 496 - 26 * length records = length-replicate (496 - 26 * length records) 0 in
     let e = length-append (flat_map record_bytes records) (blank records) in
     omega arith
 
-pub length_block : (h : Header) (place : ℕ) (records : List Record) → All (Fit h.kind) records → length records ≤ 19 → length (block_bytes h place records) ≡ 512
+pub length_block : (h : Header) (place : ℕ) (records : List Record) → AllByRecursion (Fit h.kind) records → length records ≤ 19 → length (block_bytes h place records) ≡ 512
 unfolding block_bytes
 length_block h place records fit few = length_with_check (block_body h place records) ∙ omega (arith, length_body h place records fit few)
 
@@ -143,11 +143,11 @@ sound_from : (first : Header) (place : ℕ) (last : Bool) (block : List ℕ) →
 unfolding block_checked
 sound_from first place last block holds front records zeros = rw (holds, front, records, zeros)
 
-holds_written : (h : Header) (place : ℕ) (records : List Record) → All (Fit h.kind) records → length records ≤ 19 → check_holds (block_bytes h place records) ≡ true
+holds_written : (h : Header) (place : ℕ) (records : List Record) → AllByRecursion (Fit h.kind) records → length records ≤ 19 → check_holds (block_bytes h place records) ≡ true
 unfolding block_bytes
 holds_written h place records fit few = check_read_back (block_body h place records) (length_body h place records fit few)
 
-pub block_read_back : (h : Header) (place : ℕ) (last : Bool) (records : List Record) → header_fits h ≡ true → count_fits last (length records) ≡ true → length records ≤ 19 → All (Fit h.kind) records →
+pub block_read_back : (h : Header) (place : ℕ) (last : Bool) (records : List Record) → header_fits h ≡ true → count_fits last (length records) ≡ true → length records ≤ 19 → AllByRecursion (Fit h.kind) records →
     (block_checked h place last (block_bytes h place records) ≡ Ok tt) × (block_records (block_bytes h place records) ≡ records)
 block_read_back h place last records fits count few fit =
     let rest = blank records ++ check_of h place records in

@@ -1,6 +1,6 @@
 -- The steps of the checks before a paper is written, and what they tell. Assumes nothing.
 use Rattle.std.proofs.Common.{◌≡◌, ℕ, ◌+◌, ◌*◌, ◌/◌, ◌%◌, ◌<◌, ◌≤◌, Bool, true, cond, List, [], ◌∷◌, length, get_or, drop, Ok, Err, ap, ◌∙◌, arith}
-use Rattle.std.specs.List.{AllByRecursion as All}
+use Rattle.std.specs.List.{AllByRecursion}
 use Rattle.std.proofs.lemmas.List.{at_drop_more, at_drop_all}
 use Rattle.std.proofs.lemmas.Bool.Decides.{nat_tests}
 use Rattle.blocks.specs.Faults.{in_record, then}
@@ -30,13 +30,13 @@ room_checked room h records some most is =
     let fits : room_fits room (length records) ≡ true = grind (arith, nat_tests) in
     ap (λ t. cond t (then InBlock (contents_checked h records) (Ok tt)) (Err Length)) fits
 
-all_fit : (kind k : ℕ) (records : List Record) → All Held records → records_checked kind k records ≡ Ok tt → All (Fit kind) records
+all_fit : (kind k : ℕ) (records : List Record) → AllByRecursion Held records → records_checked kind k records ≡ Ok tt → AllByRecursion (Fit kind) records
 all_fit kind k [] held is = tt
 all_fit kind k (r ∷ rs) held is =
     let p = cond_tells (record_fits kind r) _ _ tt is in
     ((held.0, p.0), all_fit kind (k + 1) rs held.1 p.1)
 
-pub contents_tell : (h : Header) (records : List Record) (t : Unit {0}) → All Held records → contents_checked h records ≡ Ok t → (header_fits h ≡ true) × All (Fit h.kind) records
+pub contents_tell : (h : Header) (records : List Record) (t : Unit {0}) → AllByRecursion Held records → contents_checked h records ≡ Ok t → (header_fits h ≡ true) × AllByRecursion (Fit h.kind) records
 contents_tell h records t held is =
     let p = cond_tells (header_fits h) _ _ t is in
     let q = then_tells in_record (records_checked h.kind 0 records) (Ok tt) t p.1 in

@@ -1,6 +1,6 @@
 // The checks of a header and records to be written.
 ghost use Rattle.std.specs.Prelude.{◌≡◌, ◌≤◌, true, length, is_ok};
-ghost use Rattle.std.specs.List.{AllByRecursion as All};
+ghost use Rattle.std.specs.List.{AllByRecursion};
 ghost use Rattle.paper.specs.Records.{Held};
 ghost use Rattle.paper_writer.specs.Refusing.{contents_checked, records_checked};
 
@@ -12,7 +12,7 @@ use paper::record::Record;
 fn check_records(records: &[Record], kind: u8) -> Result<(), RecordFault>
     requires { length records.now ≤ 1900 }
     ensures answer { result ≡ records_checked kind 0 records.now }
-    ensures held { is_ok result ≡ true → All Held records.now }
+    ensures held { is_ok result ≡ true → AllByRecursion Held records.now }
 {
     for (k, record) in records.iter().enumerate() {
         if !record.fits(kind) {
@@ -29,7 +29,7 @@ fn check_records(records: &[Record], kind: u8) -> Result<(), RecordFault>
 pub(crate) fn check_contents(header: Header, records: &[Record]) -> Result<(), BlockFault>
     requires { length records.now ≤ 1900 }
     ensures answer { result ≡ contents_checked header records.now }
-    ensures held { is_ok result ≡ true → All Held records.now }
+    ensures held { is_ok result ≡ true → AllByRecursion Held records.now }
 {
     if !header.fits() {
         return Err(BlockFault::Header { block: 0 });

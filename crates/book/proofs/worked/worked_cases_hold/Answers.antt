@@ -1,5 +1,5 @@
 use Rattle.std.proofs.Common.{◌≡◌, Bool, true, ◌&&◌, eqb, List, [], ◌∷◌, refl}
-use Rattle.std.specs.List.{AllByRecursion as All}
+use Rattle.std.specs.List.{AllByRecursion}
 use Rattle.std.proofs.lemmas.Bool.{and_parts, eqb-true}
 use Rattle.seatings.specs.Seatings.{seatable}
 use Rattle.book.specs.Worked.{Case, Holds, cases}
@@ -10,7 +10,7 @@ abbrev passes : List Case → Bool
 passes [] = true
 passes (c ∷ cs) = eqb c.figure c.should_be && passes cs
 
-each_holds : (cs : List Case) → passes cs ≡ true → All Holds cs
+each_holds : (cs : List Case) → passes cs ≡ true → AllByRecursion Holds cs
 each_holds [] e = tt
 each_holds (c ∷ cs) e =
     let (this, rest) = and_parts (eqb c.figure c.should_be) (passes cs) e in

@@ -1,5 +1,5 @@
 use Rattle.std.proofs.Common.{sym, ◌∙◌, subst}
-use Rattle.std.specs.List.{AllByRecursion as All}
+use Rattle.std.specs.List.{AllByRecursion}
 use Rattle.std.proofs.ByRecursion.{All-more}
 use Rattle.std.proofs.lemmas.List.{take_all}
 use Rattle.std.proofs.lemmas.Bool.{false≢true}
@@ -24,5 +24,5 @@ pub returns : goal.returns
 returns c =
     record {
       answer = sym (records_none _ _ _ c.loop-k-test.false) ∙ c.loop-k.invariant.0;
-      held = λ _. subst (All Held) (take_all c.loop-k.k c.args.records.now c.loop-k-test.false) c.loop-k.invariant.1;
+      held = λ _. subst (AllByRecursion Held) (take_all c.loop-k.k c.args.records.now c.loop-k-test.false) c.loop-k.invariant.1;
     }
