@@ -20,8 +20,7 @@ pub trait Rule {
 
     // The fingerprint of a key, below the range. The rule stays as it was.
     fn fingerprint(&self, key: &[u8], range: NonZeroU32) -> u32
-        ensures value { result ≡ meaning self.now key.now (non_zero_u32_get range) }
-        ensures kept { self.now ≡ self.now };
+        ensures value { result ≡ meaning self.now key.now (non_zero_u32_get range) };
 
     ghost ranged: { (rule : Self) → Ranged (meaning rule) };
 }

@@ -15,8 +15,7 @@ pub trait Figured: Tally {
 
     // What is printed of the tally.
     fn figures(&self) -> (u32, u64)
-        ensures value { result ≡ shown self.now }
-        ensures kept { self.now ≡ self.now };
+        ensures value { result ≡ shown self.now };
 
     // The tally that these stand for.
     fn of_figures(packets: u32, octets: u64) -> Self

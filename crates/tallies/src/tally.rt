@@ -22,23 +22,19 @@ pub trait Tally: Sized {
 
     // Whether this is the empty value.
     fn is_empty(&self) -> bool
-        ensures value { result ≡ kind.is_empty self.now }
-        ensures kept { self.now ≡ self.now };
+        ensures value { result ≡ kind.is_empty self.now };
 
     // Whether this may be joined or taken back.
     fn is_amount(&self) -> bool
-        ensures value { result ≡ kind.is_amount self.now }
-        ensures kept { self.now ≡ self.now };
+        ensures value { result ≡ kind.is_amount self.now };
 
     // The value with the amount joined to it, or nothing where that passes the ceiling.
     fn join(&self, amount: &Self) -> Option<Self>
-        ensures value { result ≡ kind.join self.now amount.now }
-        ensures kept { (self.now ≡ self.now) × (amount.now ≡ amount.now) };
+        ensures value { result ≡ kind.join self.now amount.now };
 
     // The value that, joined with the amount, makes this one, or nothing if there is none.
     fn take_back(&self, amount: &Self) -> Option<Self>
-        ensures value { result ≡ kind.take_back self.now amount.now }
-        ensures kept { (self.now ≡ self.now) × (amount.now ≡ amount.now) };
+        ensures value { result ≡ kind.take_back self.now amount.now };
 
     ghost lawful: { Lawful kind };
 }
