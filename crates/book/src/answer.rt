@@ -1,5 +1,5 @@
 ghost use Rattle.std.specs.Prelude.{◌≡◌};
-ghost use Rattle.book.specs.Answers.{of_tally, of_held, of_rows};
+ghost use Rattle.book.specs.Answers.{answer_number, of_tally, of_held, of_rows};
 
 use seats::refusal::Refusal;
 
@@ -48,6 +48,16 @@ impl<T> Answer<T> {
         match outcome {
             Ok(rows) => Answer::Sized(rows),
             Err(refusal) => Answer::Refused(refusal),
+        }
+    }
+
+    // The number of the refusal, or 0.
+    pub fn number(&self) -> u8
+        ensures { result ≡ answer_number self.now }
+    {
+        match self {
+            Answer::Tallied(_) | Answer::Held(_) | Answer::Sized(_) => 0,
+            Answer::Refused(refusal) => refusal.number(),
         }
     }
 }

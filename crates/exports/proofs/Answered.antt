@@ -1,7 +1,8 @@
 -- The calls of a row, one after another. Assumes nothing.
 use Rattle.std.proofs.Common.{◌≡◌, ℕ, ◌+◌, ◌-◌, ◌*◌, ◌<◌, List, [], ◌∷◌, ◌++◌, map, length, take, drop, set, sym, refl, ap, ◌∙◌, append_assoc, append-nil, arith, length-append}
 use Rattle.numbers.specs.Buffers.{put}
-use Rattle.numbers.proofs.Puts.{put_none, put_byte, put_put}
+use Rattle.numbers.proofs.Puts.{put_byte, put_put}
+use Rattle.run.proofs.Running.{put_none}
 use Rattle.blocks.proofs.Pieces.{pieces_more}
 use Rattle.tallies.specs.declared.replicas.Replicas.{Replicas}
 use Rattle.tallies.specs.Replicas.{replicas_kind}

@@ -4,7 +4,7 @@ use Rattle.blocks.specs.Pieces.{pieces}
 use Rattle.tallies.specs.declared.replicas.Replicas.{Replicas}
 use Rattle.tallies.specs.Replicas.{replicas, replicas_kind}
 use Rattle.rules.specs.Rules.{plain_rule}
-use Rattle.seats.specs.Shapes.{Size, shape-refusal}
+use Rattle.seats.specs.Shapes.{Size, wrong}
 use Rattle.book.specs.Answers.{answer_number}
 use Rattle.book.specs.Books.{Book, Call, post, reverse, erase, look_up, widen, narrow, answers}
 
@@ -39,4 +39,4 @@ size_of buckets most rows = record { buckets = buckets; most = most; rows = rows
 
 -- how many calls are made: as many as there are whole pieces and places for their numbers, or none if no table is opened
 abbrev pub how_many : ℕ → ℕ → ℕ → ℕ → ℕ → ℕ
-how_many buckets most rows bytes places = cond (is_some (shape-refusal buckets most rows (buckets * most))) 0 (min (bytes / 5) places)
+how_many buckets most rows bytes places = cond (is_some (wrong buckets most rows (buckets * most))) 0 (min (bytes / 5) places)

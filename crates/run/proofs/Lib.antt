@@ -1,5 +1,6 @@
 mod Calling
 mod Papers
 mod Printing
-mod Running
+pub mod Running
+mod Spelled
 mod Written

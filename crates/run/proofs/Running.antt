@@ -15,7 +15,7 @@ use Rattle.run.specs.Lines.{line}
 use Rattle.run.specs.Printed.{call_for, call_line, lines}
 use Rattle.run.specs.Called.{Called}
 
-put_none : (out : List ℕ) → out ≡ put out 0 []
+pub put_none : (out : List ℕ) → out ≡ put out 0 []
 unfolding put
 put_none out = refl
 

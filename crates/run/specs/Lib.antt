@@ -4,3 +4,5 @@ pub mod Figures
 pub mod Lines
 pub mod Printed
 pub mod Runs
+pub mod Texts
+pub mod Worked

@@ -8,3 +8,4 @@ pub mod figured;
 mod lines;
 pub mod print;
 mod table_of;
+pub mod worked;

@@ -14,6 +14,13 @@ use paper::header::Header;
 // The most bytes that are printed of a paper: 1,900 lines of 36 bytes.
 pub const MOST_PRINTED: usize = 68_400;
 
+// The same, as a contract can give it. A shorter buffer is refused.
+pub fn most_printed() -> usize
+    ensures { result ≡ 68400 }
+{
+    MOST_PRINTED
+}
+
 // The header of a paper that is sound, where there is room for its lines.
 fn header_to_run(paper: &[u8], room: usize) -> Result<Header, RunFault>
     ensures { result ≡ header_for paper.now room }

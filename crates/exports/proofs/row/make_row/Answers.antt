@@ -4,7 +4,7 @@ use Rattle.seats.specs.Shapes.{size}
 use Rattle.tallies.specs.Replicas.{replicas_kind}
 use Rattle.book.specs.Books.{blank}
 use Rattle.table.specs.Requests.{asked}
-use Rattle.table.proofs.Opened.{fresh_keeps}
+use Rattle.replay.proofs.Accounts.{fresh_keeps}
 use Rattle.numbers.specs.Buffers.{put}
 use Rattle.exports.specs.Calls.{piece_asks, row_of, told}
 use Rattle.exports.proofs.Answered.{going_first, going_on, gone}
@@ -21,10 +21,10 @@ loop-i-preserved c =
     let i = c.loop-i.i in
     let place : i * 5 ≡ 5 * i = omega arith in
     let wide : i * 5 + 5 - i * 5 ≡ 5 = omega arith in (
-      going_on c.loop-i.invariant.0 (asked (length c.loop-i.words) c.request-of-request.result) c.call.result c.call.new.self _ c.number.result
+      going_on c.loop-i.invariant.0 (asked (length c.loop-i.words) c.request_of-request.result) c.call.result c.call.new.self _ c.number.result
           (omega arith) (omega arith) (omega arith)
-          (ap (λ n. asked n c.request-of-request.result) c.loop-i.invariant.1 ∙ c.request-of-request.ensures ∙ (λ at. piece_asks (take (wide at) (drop (place at) c.args.calls.now))))
-          c.call.ensures.did c.number.ensures.value refl,
+          (ap (λ n. asked n c.request_of-request.result) c.loop-i.invariant.1 ∙ c.request_of-request.ensures ∙ (λ at. piece_asks (take (wide at) (drop (place at) c.args.calls.now))))
+          c.call.ensures.did c.number.ensures refl,
       omega arith,
     )
 
