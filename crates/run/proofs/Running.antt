@@ -15,6 +15,7 @@ use Rattle.run.specs.Lines.{line}
 use Rattle.run.specs.Printed.{call_for, call_line, lines}
 use Rattle.run.specs.Called.{Called}
 
+-- no bytes, put at the start
 pub put_none : (out : List ℕ) → out ≡ put out 0 []
 unfolding put
 put_none out = refl
