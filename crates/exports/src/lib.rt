@@ -1,5 +1,5 @@
 // The functions that a static library exports, for C or Rust to link. They take numbers and slices of bytes only.
 pub mod calls;
-pub mod paper;
+pub mod lines;
 mod request;
 mod row;
