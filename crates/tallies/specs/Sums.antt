@@ -1,8 +1,9 @@
--- What the joining and the taking back of traffic say of packets and octets. Assumes nothing.
+-- What the joining and the taking back of traffic say of packets and octets, and that the kind keeps the laws of one. Assumes nothing.
 use Rattle.std.specs.Prelude.{◌≡◌, ℕ, ◌-◌, ◌≤◌, Bool, true, false, cond, ◌&&◌, Some, None, nat_le, refl}
 use Rattle.std.proofs.Common.{sym, ap, ◌∙◌, arith}
 use Rattle.std.proofs.lemmas.Bool.Decides.{nat_tests}
 use Rattle.tallies.specs.declared.traffic.Traffic.{Traffic}
+use Rattle.tallies.specs.Kinds.{Lawful}
 use Rattle.tallies.specs.Traffic.{traffic, sum, within_ceilings, traffic_kind}
 
 -- something that is there only under a test
@@ -39,3 +40,36 @@ taken v a w e =
 
 pub not_taken : (v a : Traffic) → traffic_kind.take_back v a ≡ None → (nat_le a.packets v.packets && nat_le a.octets v.octets) ≡ false
 not_taken v a e = none_if (nat_le a.packets v.packets && nat_le a.octets v.octets) (traffic (v.packets - a.packets) (v.octets - a.octets)) e
+
+pub traffic_lawful : Lawful traffic_kind
+traffic_lawful = record {
+  empty_told = λ v. (
+    λ h. same_traffic v (traffic 0 0) (grind (arith, nat_tests)) (grind (arith, nat_tests)),
+    λ e. let p = packets_of e in let o = octets_of e in grind (arith, nat_tests),
+  );
+  empty_is_value = refl;
+  empty_is_no_amount = refl;
+  amounts_are_values = λ a h. grind (arith, nat_tests);
+  joined_is_value = λ v a r _ _ e. let (fits, is) = joined v a r e in ap within_ceilings (sym is) ∙ fits;
+  empty_joins_to_amount = λ a h.
+      joins (traffic 0 0) a a (grind (arith, nat_tests)) (same_traffic (sum (traffic 0 0) a) a (omega arith) (omega arith));
+  joined_is_never_empty = λ v a r _ ha e z.
+      let is = (joined v a r e).1 in
+      let p = packets_of (is ∙ z) in
+      let o = octets_of (is ∙ z) in
+      grind (arith, nat_tests);
+  joining_cancels = λ v w a r _ _ _ e d.
+      let same = (joined v a r e).1 ∙ sym (joined w a r d).1 in
+      let p = packets_of same in
+      let o = octets_of same in
+      same_traffic v w (omega arith) (omega arith);
+  taken_back_joins = λ v w a hv _ e.
+      let (packets, octets, p, o) = taken v a w e in
+      (grind (arith, nat_tests), joins w a v (grind (arith, nat_tests)) (same_traffic (sum w a) v (omega arith) (omega arith)));
+  not_taken_back_never_joins = λ v w a _ _ e _ d.
+      let lacks = not_taken v a e in
+      let is = (joined w a v d).1 in
+      let p = packets_of is in
+      let o = octets_of is in
+      grind (arith, nat_tests);
+}

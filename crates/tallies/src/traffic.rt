@@ -1,8 +1,5 @@
-ghost use Rattle.tallies.specs.Traffic.{traffic_kind, traffic_number, traffic, sum, within_ceilings};
-ghost use Rattle.std.specs.Prelude.{refl};
-ghost use Rattle.std.proofs.Common.{sym, ap, ◌∙◌, arith};
-ghost use Rattle.std.proofs.lemmas.Bool.Decides.{nat_tests};
-ghost use Rattle.tallies.specs.Sums.{same_traffic, packets_of, octets_of, joined, joins, taken, not_taken};
+ghost use Rattle.tallies.specs.Traffic.{traffic_kind, traffic_number};
+ghost use Rattle.tallies.specs.Sums.{traffic_lawful};
 
 use crate::tally::Tally;
 
@@ -23,37 +20,7 @@ impl Tally for Traffic {
 
     const NUMBER: u8 = 2;
 
-    ghost lawful = { record {
-      empty_told = λ v. (
-        λ h. same_traffic v (traffic 0 0) (Prim.grind (arith, nat_tests)) (Prim.grind (arith, nat_tests)),
-        λ e. let p = packets_of e in let o = octets_of e in Prim.grind (arith, nat_tests),
-      );
-      empty_is_value = refl;
-      empty_is_no_amount = refl;
-      amounts_are_values = λ a h. Prim.grind (arith, nat_tests);
-      joined_is_value = λ v a r _ _ e. let (fits, is) = joined v a r e in ap within_ceilings (sym is) ∙ fits;
-      empty_joins_to_amount = λ a h.
-          joins (traffic 0 0) a a (Prim.grind (arith, nat_tests)) (same_traffic (sum (traffic 0 0) a) a (omega arith) (omega arith));
-      joined_is_never_empty = λ v a r _ ha e z.
-          let is = (joined v a r e).1 in
-          let p = packets_of (is ∙ z) in
-          let o = octets_of (is ∙ z) in
-          Prim.grind (arith, nat_tests);
-      joining_cancels = λ v w a r _ _ _ e d.
-          let same = (joined v a r e).1 ∙ sym (joined w a r d).1 in
-          let p = packets_of same in
-          let o = octets_of same in
-          same_traffic v w (omega arith) (omega arith);
-      taken_back_joins = λ v w a hv _ e.
-          let (packets, octets, p, o) = taken v a w e in
-          (Prim.grind (arith, nat_tests), joins w a v (Prim.grind (arith, nat_tests)) (same_traffic (sum w a) v (omega arith) (omega arith)));
-      not_taken_back_never_joins = λ v w a _ _ e _ d.
-          let lacks = not_taken v a e in
-          let is = (joined w a v d).1 in
-          let p = packets_of is in
-          let o = octets_of is in
-          Prim.grind (arith, nat_tests);
-    } };
+    ghost lawful = { traffic_lawful };
 
     fn kind_number() -> u8 {
         Self::NUMBER
