@@ -10,7 +10,8 @@ import os
 import re
 
 NAME = r"[A-Za-z_][A-Za-z0-9_'′-]*"
-DECLARED = re.compile(rf"^[ \t]*(?:(?:pub|abbrev|unfoldable) )*(?:(?:record|data) )?({NAME})(?: [({{][^\n]*)? : (?!goal\.)", re.M)
+PARAMETERS = r"(?: (?:\([^()]*(?:\([^()]*\)[^()]*)*\)|\{[^{}]*\}))*"
+DECLARED = re.compile(rf"^[ \t]*(?:(?:pub|abbrev|unfoldable) )*(?:(?:record|data) )?({NAME}){PARAMETERS} :(?:$| (?!goal\.))", re.M)
 RENAMED_IN_IMPORT = re.compile(rf" as ({NAME})")
 # `getD` is no word of today's library: its name there stands for it.
 # `ReadBack` is a module of proofs/ there.

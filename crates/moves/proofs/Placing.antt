@@ -21,8 +21,8 @@ pub ready_root : {X : Type 0} {e : X} {before after : List (Seat X)} (z : Size) 
     Opened e before after z bucket hole → Crowded e before z f → Ready e before after z f hole
 ready_root {e} {before} {after} z f {hole} {bucket} links roots is o crowded =
     ⊎_elim
-    (λ (at-q : bucket ≡ f / z.buckets). record { flag = true; opened = subst (λ b. Opened e before after z b hole) at-q o; direct = inl crowded })
-    (λ (at-r : bucket ≡ f % z.buckets). record { flag = false; opened = subst (λ b. Opened e before after z b hole) at-r o; direct = inl crowded })
+    (λ (at_q : bucket ≡ f / z.buckets). record { flag = true; opened = subst (λ b. Opened e before after z b hole) at_q o; direct = inl crowded })
+    (λ (at_r : bucket ≡ f % z.buckets). record { flag = false; opened = subst (λ b. Opened e before after z b hole) at_r o; direct = inl crowded })
     (roots.only bucket o.in_table is)
 
 -- a free seat of a bucket of f is open
@@ -90,4 +90,4 @@ module _ {X : Type 0} {e : X} {before after : List (Seat X)} {z : Size} {hole : 
 -- the work words, where the call was let in
 pub spared : {X : Type 0} (k : Kind X) (before : List (Seat X)) (z : Size) (f : ℕ) (tally : X) (words words' : List ℕ) → bar k before z tally (length words) ≡ None → f < z.range →
     (words' ≡ words) ⊎ Crowded k.empty before z f → Spared k before z f tally words words'
-spared k before z f tally words words' let-in below either = ⊎_elim inl (λ crowded. inr (let-in, below, crowded)) either
+spared k before z f tally words words' let_in below either = ⊎_elim inl (λ crowded. inr (let_in, below, crowded)) either

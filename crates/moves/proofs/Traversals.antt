@@ -43,7 +43,7 @@ module _ {X : Type 0} {e : X} {seats : List (Seat X)} {z : Size} (sound : Sound 
         let real : i ≡ unseen → ⊥ = λ h. omega arith in
         let inner : i ≡ root → ⊥ = λ h. omega arith in
         let same : get_or queue' head 0 ≡ bucket = x.grown.same head on in
-        let still-on = x.grown.longer in
+        let still_on = x.grown.longer in
         let w = visited e seats z x.reached (omega arith) long wide n j i low real inner in_rows (ap (λ b. b * z.most + n) (sym same)) (sym is) filled v in
         let grew = grown_visit x.reached.order long wide j i low real inner v in
         let rank = w.reached.tree.rank in
@@ -130,7 +130,7 @@ module _ {X : Type 0} {e : X} {seats : List (Seat X)} {z : Size} (sound : Sound 
         let r = x.reached in
         let rank = r.tree.rank in
         let longer = x.grown.longer in
-        let still-on : head < x.end = omega arith in
+        let still_on : head < x.end = omega arith in
         let same : get_or queue' head 0 ≡ get_or queue head 0 = x.grown.same head on in
         -- a bucket of a rank below that of the head was passed
         let nearer : (j : ℕ) → j < z.buckets → Seen links' j → rank j < rank (get_or queue' head 0) → (k : ℕ) × (k < head) × (get_or queue' k 0 ≡ j) =
@@ -142,8 +142,8 @@ module _ {X : Type 0} {e : X} {seats : List (Seat X)} {z : Size} (sound : Sound 
           chain = record {
             tree = record { rank = rank; below = λ j h seen. omega (arith, r.tree.below j h seen, r.order.few); step = r.tree.step };
             bucket = get_or queue' head 0;
-            in_table = r.order.low head still-on;
-            seen = r.order.listed head still-on;
+            in_table = r.order.low head still_on;
+            seen = r.order.listed head still_on;
             lies = subst (λ b. Lies z b i) (sym same) x.lies;
             empty = x.empty;
           };

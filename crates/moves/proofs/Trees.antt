@@ -84,7 +84,7 @@ module _ {X : Type 0} (e : X) (seats : List (Seat X)) (z : Size) where
               (subst (λ k. Parent e seats z links' rank (t.rank b + 1) k link) (sym is) parent))))
               (λ (ne : i ≡ j → ⊥).
               let same : get_or links' i 0 ≡ get_or links i 0 = link_there o long wide j link low real v i ne in
-              ⊎_elim (λ at-root. inl (same ∙ at-root.0, there i ne ∙ at-root.1))
+              ⊎_elim (λ at_root. inl (same ∙ at_root.0, there i ne ∙ at_root.1))
               (λ (p : Parent e seats z links t.rank (t.rank i) i (get_or links i 0)).
               inr (subst (λ s. Parent e seats z links' rank (rank i) i s) (sym same)
               (record {

@@ -190,7 +190,7 @@ begun {z} sound f below {links} {queue} all long wide {links'} {queue'} v long' 
     (λ p. p.1)
     (second j)
     in
-    let seen-q : Seen links' q = seen_visit o long wide q root high real v in
+    let seen_q : Seen links' q = seen_visit o long wide q root high real v in
     record {
       order = order_visit o' long' wide' r root low real w;
       just = just;
@@ -201,7 +201,7 @@ begun {z} sound f below {links} {queue} all long wide {links'} {queue'} v long' 
             ⊎_elim (λ (was : get_or links' j 0 ≡ get_or links j 0). absurd (real (sym is-root ∙ is ∙ was ∙ all j h))) (λ p. inl p.0) (first j))
             (λ p. inr p.0)
             (second j);
-        quotient = just q high (seen_kept links' links'' q (keeps_visit o' long' wide' r root low real w q seen-q) seen-q);
+        quotient = just q high (seen_kept links' links'' q (keeps_visit o' long' wide' r root low real w q seen_q) seen_q);
         remainder = just r low (seen_visit o' long' wide' r root low real w);
       };
     }

@@ -52,7 +52,7 @@ module _ {X : Type 0} {e : X} {before : List (Seat X)} {z : Size} (sound : Sound
         let link = get_or links j 0 in
         let rest = depth links z.most n (link / z.most) in
         ⊎_elim
-        (λ at-root. cond-true (eqb link root) 0 (suc rest) (eq-eqb link root at-root.0) ∙ sym at-root.1)
+        (λ at_root. cond-true (eqb link root) 0 (suc rest) (eq-eqb link root at_root.0) ∙ sym at_root.1)
         (λ (p : Parent e before z links t.rank (t.rank j) j link).
         let inner : link ≡ root → ⊥ = λ is. omega (arith, p.lies, p.in_rows, bucket_inside sound p.bucket p.in_table, few_seats sound) in
         let further : rest ≡ t.rank p.bucket = ap (depth links z.most n) (at_parent p) ∙ depth_is n p.bucket p.in_table p.seen (omega (arith, p.nearer)) in

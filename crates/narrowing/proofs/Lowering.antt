@@ -327,7 +327,7 @@ module _ {X : Type 0} (e : X) {z : Size} (sound : Sound z) (more : 1 < z.rows) w
           refused.same,
           λ entries shows.
               crowded xs entries shows bucket f b (sits_at entries shows f back)
-              (⊎_elim (λ barred-by. let none = unbarred words long enough in let n : ◌≡◌ {A = ℕ} 0 1 = cc in absurd (omega arith)) (λ h. h.2) refused.reason),
+              (⊎_elim (λ barred_by. let none = unbarred words long enough in let n : ◌≡◌ {A = ℕ} 0 1 = cc in absurd (omega arith)) (λ h. h.2) refused.reason),
         )
           where
             full : (x : Bool) → k.is_empty s.tally ≡ x → x ≡ false

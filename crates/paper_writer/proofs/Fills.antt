@@ -23,13 +23,13 @@ pub record_filled : (part second third key packets octets : List ℕ) (code : �
     second ≡ put (put_mid 1 13 (set part 0 code) key) 14 packets → third ≡ put second 18 octets → third ≡ code ∷ (key ++ (packets ++ octets))
 record_filled part second third key packets octets code long lk lp lo is-second is-third =
     let with_call : set part 0 code ≡ put part 0 (code ∷ []) = put_byte part 0 code (omega arith) in
-    let with-key : put_mid 1 13 (set part 0 code) key ≡ put part 0 (code ∷ key) =
+    let with_key : put_mid 1 13 (set part 0 code) key ≡ put part 0 (code ∷ key) =
     ap (λ l. put_mid 1 13 l key) with_call ∙ put_part (put part 0 (code ∷ [])) key key 1 13 refl (sym lk) ∙ put_put part (code ∷ []) key 0 1 refl (omega arith) in
-    let with-packets : second ≡ put part 0 ((code ∷ key) ++ packets) =
-    is-second ∙ ap (λ l. put l 14 packets) with-key ∙ put_put part (code ∷ key) packets 0 14 (omega arith) (omega arith) in
+    let with_packets : second ≡ put part 0 ((code ∷ key) ++ packets) =
+    is-second ∙ ap (λ l. put l 14 packets) with_key ∙ put_put part (code ∷ key) packets 0 14 (omega arith) (omega arith) in
     let before = length-append (code ∷ key) packets in
     let all = length-append ((code ∷ key) ++ packets) octets in
-    is-third ∙ ap (λ l. put l 18 octets) with-packets
+    is-third ∙ ap (λ l. put l 18 octets) with_packets
     ∙ put_put part ((code ∷ key) ++ packets) octets 0 18 (omega arith) (omega arith)
     ∙ put_all part (((code ∷ key) ++ packets) ++ octets) (omega arith)
     ∙ append_assoc (code ∷ key) packets octets

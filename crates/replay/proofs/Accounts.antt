@@ -124,7 +124,7 @@ module _ {V : Type 0} (k : Kind V) (rule : Meaning) where
   account = record {
     answers_are_the_books = λ t fresh ss ran. each_as_book t (first_book t) (fresh_keeps k t fresh) ss ran;
     seats_wanting_exactly_without_a_seating = λ t fresh ss ran. each_wants (first_book t) ss (each_as_book t (first_book t) (fresh_keeps k t fresh) ss ran);
-    equal-books-answer-alike = λ t u ft fu ss rs rt ru same more other rm ro alike.
+    equal_books_answer_alike = λ t u ft fu ss rs rt ru same more other rm ro alike.
         let one = run_by_book (last_table t ss) _ (ends t (first_book t) (fresh_keeps k t ft) ss rt) more rm in
         let two = run_by_book (last_table u rs) _ (ends u (first_book u) (fresh_keeps k u fu) rs ru) other ro in
         one ∙ (λ i. answers k rule (same i) (alike i)) ∙ sym two;

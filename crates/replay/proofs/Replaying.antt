@@ -52,11 +52,11 @@ module _ {V : Type 0} (k : Kind V) (rule : Meaning) where
   replayed_none t = replayed_as t t [] [] [] tt refl refl refl
 
   -- the turn of a loop that makes the call at i
-  pub replayed-more :
+  pub replayed_more :
       (t u v : Table V) (lent : ℕ) (i : ℕ) (rs : List (Request V)) (r : Request V) (xs ys : List (Answer V)) (a : Answer V) → i < length rs → r ≡ get_or rs i r → i < length xs → ys ≡ set xs i a →
       Replayed k rule t (all_asked lent (take i rs)) (take i xs) u → Did k rule u (asked lent r) a v →
       Replayed k rule t (all_asked lent (take (i + 1) rs)) (take (i + 1) ys) v
-  replayed-more t u v lent i rs r xs ys a low is room wrote run did =
+  replayed_more t u v lent i rs r xs ys a low is room wrote run did =
       let s : Step V = record { call = asked lent r; answer = a; table = v } in
       let ss = run.steps in
       let one_more : all_asked lent (take (i + 1) rs) ≡ all_asked lent (take i rs) ++ asked lent r ∷ [] =

@@ -42,7 +42,7 @@ WantsSeats k rule b (narrow words) a =
 pub record Account {V : Type 0} (k : Kind V) (rule : Meaning) : Type 0 where
   pub answers_are_the_books : (t : Table V) → Fresh k t → (ss : List (Step V)) → Ran k rule t ss → Each (AsBook k rule) k rule (first_book t) ss
   pub seats_wanting_exactly_without_a_seating : (t : Table V) → Fresh k t → (ss : List (Step V)) → Ran k rule t ss → Each (λ b s. WantsSeats k rule b s.call s.answer) k rule (first_book t) ss
-  pub equal-books-answer-alike :
+  pub equal_books_answer_alike :
       (t u : Table V) → Fresh k t → Fresh k u → (ss rs : List (Step V)) → Ran k rule t ss → Ran k rule u rs →
       after_all k rule (first_book t) (calls ss) ≡ after_all k rule (first_book u) (calls rs) →
       (more other : List (Step V)) → Ran k rule (last_table t ss) more → Ran k rule (last_table u rs) other →

@@ -11,7 +11,7 @@ pub trait Rule {
     // The number by which papers name the rule, or 0 if they name it by none.
     ghost code: { ℕ };
 
-    // The same number in code. Contracts cannot name a constant: `rule_number` gives its value.
+    // The same number in code, which `rule_number` gives.
     const NUMBER: u8;
 
     // The rule's number.

@@ -14,7 +14,7 @@ use paper::header::Header;
 // The most bytes that are printed of a paper: 1,900 lines of 36 bytes.
 pub const MOST_PRINTED: usize = 68_400;
 
-// The same, as a contract can give it. A shorter buffer is refused.
+// The same number, promised by a contract. A shorter buffer is refused.
 pub fn most_printed() -> usize
     ensures { result ≡ 68400 }
 {

@@ -25,8 +25,8 @@ module _ (m b : ℕ) (held : ℕ → Bool) where
       let skip : held f ≡ false → fits m b held f loads ≡ true = λ e. room_found f loads choice (λ i. let r = room i in grind arith) in
       let first : held f ≡ true → choice f ≡ true → fits m b held f (bumped loads (f / m)) ≡ true = λ e c. room_found f (bumped loads (f / m)) choice (λ i. let r = room i in grind (arith, nat_tests)) in
       let second : held f ≡ true → choice f ≡ false → fits m b held f (bumped loads (f % m)) ≡ true = λ e c. room_found f (bumped loads (f % m)) choice (λ i. let r = room i in grind (arith, nat_tests)) in
-      let room-quotient = room (f / m) in
-      let room-remainder = room (f % m) in
+      let room_quotient = room (f / m) in
+      let room_remainder = room (f % m) in
       grind (arith, nat_tests)
 
   -- the choice, but for what it says of f

@@ -122,8 +122,8 @@ module _ {X : Type 0} (e : X) {z : Size} (sound : Sound z) where
       told = λ g j t.
           ⊎_elim
           (λ is.
-          let g-is : g ≡ f = sits_one ys g f i (subst (λ n. Sits e ys z g n) is t) sits in
-          cond-true (eqb g f) (Some s.tally) (entries g) (eq-eqb g f g-is) ∙ ap (λ (x : Seat X). Some x.tally) (sym (here j is)))
+          let g_is : g ≡ f = sits_one ys g f i (subst (λ n. Sits e ys z g n) is t) sits in
+          cond-true (eqb g f) (Some s.tally) (entries g) (eq-eqb g f g_is) ∙ ap (λ (x : Seat X). Some x.tally) (sym (here j is)))
           (λ apart. other_told g j (Some s.tally) apart t)
           (cases_eq j i);
       seated = λ g t is.
@@ -140,8 +140,8 @@ module _ {X : Type 0} (e : X) {z : Size} (sound : Sound z) where
       upright = λ g j t even.
           ⊎_elim
           (λ is.
-          let g-is : g ≡ f = sits_one ys g f i (subst (λ n. Sits e ys z g n) is t) sits in
-          ap (λ (x : Seat X). x.flag) (here j is) ∙ upright (subst (λ n. n / z.buckets ≡ n % z.buckets) g-is even))
+          let g_is : g ≡ f = sits_one ys g f i (subst (λ n. Sits e ys z g n) is t) sits in
+          ap (λ (x : Seat X). x.flag) (here j is) ∙ upright (subst (λ n. n / z.buckets ≡ n % z.buckets) g_is even))
           (λ apart. other_upright g j apart t even)
           (cases_eq j i);
     }

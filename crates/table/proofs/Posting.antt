@@ -74,13 +74,13 @@ module _ {V : Type 0} (k : Kind V) (rule : Meaning) (t : Table V) (key : List �
       let reads = reads_some k t f i v sits got in
       did_change k t u f (Some w) rule (post key amount words) (Tallied w) lent (tallied_accepts w)
       (λ b keeps.
-      let held-v = reads b.entries keeps.shows in
-      let value = keeps.values f v held-v in
+      let held_v = reads b.entries keeps.shows in
+      let value = keeps.values f v held_v in
       record {
         changes = retallies k t u f i sits shape w (lawful.joined_is_never_empty v amount w value real join) seats;
         turns = posting b (Some v) reads keeps ∙ ap (joined b f) join;
         value = λ x is. ap k.is_value (some_some x w (sym is)) ∙ lawful.joined_is_value v amount w value real join;
-        count = same ∙ keeps.counted ∙ sym (as_many b f (low k t u f i sits shape b keeps) v w held-v);
+        count = same ∙ keeps.counted ∙ sym (as_many b f (low k t u f i sits shape b keeps) v w held_v);
       })
 
   -- the fingerprint is new

@@ -9,7 +9,7 @@ pub trait Tally: Sized {
     // The number by which papers name the kind, or 0 if they name it by none.
     ghost code: { ℕ };
 
-    // The same number in code. Contracts cannot name a constant: `kind_number` gives its value.
+    // The same number in code, which `kind_number` gives.
     const NUMBER: u8;
 
     // The kind's number.

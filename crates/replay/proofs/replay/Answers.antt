@@ -4,7 +4,7 @@ use Rattle.table.specs.Tables.{Did}
 use Rattle.table.specs.Requests.{asked}
 use Rattle.replay.specs.Replayed.{all_asked, Replayed}
 use Rattle.replay.proofs.Accounts.{account}
-use Rattle.replay.proofs.Replaying.{replayed_none, replayed-more}
+use Rattle.replay.proofs.Replaying.{replayed_none, replayed_more}
 use Rattle.replay.proofs.replay.Goals as goal
 
 pub loop-i-init : goal.loop-i-init
@@ -22,7 +22,7 @@ loop-i-preserved g c =
     let did = subst (λ n. Did k rule c.loop-i.table (asked n c.index-requests-i.result) c.call-answer.result c.call-answer.new.self) c.loop-i.auto.words c.call-answer.ensures.did in (
       ap (drop (i + 1)) c.note.ensures ∙ drop-set-lt (i + 1) xs i c.call-answer.result past
           ∙ sym (drop-drop 1 i xs) ∙ ap (drop 1) c.loop-i.invariant.0 ∙ drop-drop 1 i c.args.answers.now,
-      replayed-more k rule c.args.table.now c.loop-i.table c.call-answer.new.self (length c.args.words.now) i c.args.requests.now c.index-requests-i.result
+      replayed_more k rule c.args.table.now c.loop-i.table c.call-answer.new.self (length c.args.words.now) i c.args.requests.now c.index-requests-i.result
           xs c.note.new.answers c.call-answer.result low c.index-requests-i.is room c.note.ensures c.loop-i.invariant.1 did,
     )
 

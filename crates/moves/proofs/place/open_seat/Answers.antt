@@ -21,5 +21,5 @@ returns-in-None g c = record {
 pub returns-in-Some-nearest_free : goal.returns-in-Some-nearest_free
 returns-in-Some-nearest_free g c =
     let crowded = c.in_default.ensures in
-    let (bucket, at-root, opened) = c.walk_back.ensures in
-    record { seat = ready_root (size c.args.shape) c.args.fingerprint c.nearest_free.new.links c.in-Some-nearest_free.ensures.roots at-root opened crowded; spared = inr crowded }
+    let (bucket, at_root, opened) = c.walk_back.ensures in
+    record { seat = ready_root (size c.args.shape) c.args.fingerprint c.nearest_free.new.links c.in-Some-nearest_free.ensures.roots at_root opened crowded; spared = inr crowded }

@@ -12,25 +12,25 @@ enter-requires g c = ready_inside (shape_sound c.args.shape) c.args.fingerprint 
 
 pub returns-in-None : goal.returns-in-None
 returns-in-None g c =
-    let let-in : bar g.T.Tally.kind c.args.seats.now (size c.args.shape) c.args.tally (length c.args.words.now) ≡ None = grind (arith, nat_tests) in
+    let let_in : bar g.T.Tally.kind c.args.seats.now (size c.args.shape) c.args.tally (length c.args.words.now) ≡ None = grind (arith, nat_tests) in
     let below : c.args.fingerprint < (size c.args.shape).range = omega arith in
     let none = c.in-None.ensures in
     record {
-      placed = record { same = none.seat.same; reason = inr (let-in, refl, none.seat.unseatable) };
-      spared = spared g.T.Tally.kind c.args.seats.now (size c.args.shape) c.args.fingerprint c.args.tally c.args.words.now c.open_seat.new.words let-in below none.spared;
+      placed = record { same = none.seat.same; reason = inr (let_in, refl, none.seat.unseatable) };
+      spared = spared g.T.Tally.kind c.args.seats.now (size c.args.shape) c.args.fingerprint c.args.tally c.args.words.now c.open_seat.new.words let_in below none.spared;
     }
 
 pub returns-in-Some : goal.returns-in-Some
 returns-in-Some g c =
-    let let-in : bar g.T.Tally.kind c.args.seats.now (size c.args.shape) c.args.tally (length c.args.words.now) ≡ None = grind (arith, nat_tests) in
+    let let_in : bar g.T.Tally.kind c.args.seats.now (size c.args.shape) c.args.tally (length c.args.words.now) ≡ None = grind (arith, nat_tests) in
     let below : c.args.fingerprint < (size c.args.shape).range = omega arith in
     let ready = c.in-Some.ensures in
     record {
       placed = (
-        let-in,
+        let_in,
         accepted {before = c.args.seats.now} {after = c.open_seat.new.seats} (shape_sound c.args.shape) c.args.fingerprint (omega arith) ready.seat below c.args.tally
             (λ empty. both_ways c.is_empty.result c.if-is_empty.false (c.is_empty.ensures.value ∙ (g.met.T.Tally.lawful.empty_told c.args.tally).1 empty))
             c.enter.ensures,
       );
-      spared = spared g.T.Tally.kind c.args.seats.now (size c.args.shape) c.args.fingerprint c.args.tally c.args.words.now c.open_seat.new.words let-in below ready.spared;
+      spared = spared g.T.Tally.kind c.args.seats.now (size c.args.shape) c.args.fingerprint c.args.tally c.args.words.now c.open_seat.new.words let_in below ready.spared;
     }
