@@ -15,7 +15,7 @@ fn library_folder() -> PathBuf {
         Some(folder) => PathBuf::from(folder),
         None => {
             let manifest = env::var_os("CARGO_MANIFEST_DIR").expect("cargo sets the manifest folder");
-            PathBuf::from(manifest).join("../target/staticlib")
+            PathBuf::from(manifest).join("../crates/exports/out")
         }
     }
 }
