@@ -1,31 +1,25 @@
 -- Bytes in whole blocks of 512, and the checksum in a block's last eight. Assumes nothing.
-use mathlib.Core.List.{List, _++_}
-use mathlib.Core.Bool.{Bool, cond, _&&_}
-use Prim.Native.Nat.{ℕ, _/_, _%_}
-use lib.Dec.{leb, ltb, eqb}
-use lib.ListN.{length, take}
-use Rattle·std.specs.declared.option.Option.{Option}
-use Rattle·std.specs.declared.option.Option.the-variants.{Some, None}
-use Rattle·numbers.specs.Fnv.{fnv-1a}
-use Rattle·numbers.specs.LittleEndian.{number-at, bytes-of}
-use Rattle·blocks·specs.Pieces.{pieces}
+use Rattle.std.specs.Prelude.{ℕ, ◌/◌, ◌%◌, Bool, cond, ◌&&◌, List, ◌++◌, length, take, Some, None, Option, ◌==◌, nat_le, nat_lt}
+use Rattle.numbers.specs.Fnv.{fnv_1a}
+use Rattle.numbers.specs.LittleEndian.{number_at, bytes_of}
+use Rattle.blocks.specs.Pieces.{pieces}
 
 -- not empty, at most 100 blocks of 512 bytes, and of whole blocks
-abbrev pub is-paper-length : ℕ → Bool
-is-paper-length n = ltb 0 n && (leb n 51200 && eqb (n % 512) 0)
+abbrev pub is_paper_length : ℕ → Bool
+is_paper_length n = nat_lt 0 n && (nat_le n 51200 && n % 512 == 0)
 
 -- the number of blocks in n bytes
-abbrev pub count-in : ℕ → Option ℕ
-count-in n = cond (is-paper-length n) (Some (n / 512)) None
+abbrev pub count_in : ℕ → Option ℕ
+count_in n = cond (is_paper_length n) (Some (n / 512)) None
 
 -- the blocks, one after another
-abbrev pub blocks-in : List ℕ → List (List ℕ)
-blocks-in bytes = pieces 512 (length bytes / 512) bytes
+abbrev pub blocks_in : List ℕ → List (List ℕ)
+blocks_in bytes = pieces 512 (length bytes / 512) bytes
 
 -- bytes 0 to 503, and their FNV-1a number behind them
-unfoldable pub with-checksum : List ℕ → List ℕ
-with-checksum body = body ++ bytes-of 8 (fnv-1a body)
+unfoldable pub with_checksum : List ℕ → List ℕ
+with_checksum body = body ++ bytes_of 8 (fnv_1a body)
 
 -- whether bytes 504 to 511 are the FNV-1a number of those before them
-unfoldable pub checksum-holds : List ℕ → Bool
-checksum-holds block = eqb (fnv-1a (take 504 block)) (number-at 8 block 504)
+unfoldable pub checksum_holds : List ℕ → Bool
+checksum_holds block = fnv_1a (take 504 block) == number_at 8 block 504

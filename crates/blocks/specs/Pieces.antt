@@ -1,7 +1,5 @@
 -- A list cut into pieces of one length. Assumes nothing.
-use mathlib.Core.List.{List, [], _∷_}
-use Prim.Native.Nat.{ℕ, zero, suc}
-use lib.ListN.{take, drop}
+use Rattle.std.specs.Prelude.{ℕ, zero, suc, List, [], ◌∷◌, take, drop}
 
 -- the first n pieces, one after another; past the list's end, pieces are shorter or empty
 abbrev pub pieces : {X : Type 0} → ℕ → ℕ → List X → List (List X)

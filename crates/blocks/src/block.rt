@@ -1,6 +1,5 @@
-ghost use mathlib.Core.Path.{_≡_};
-ghost use lib.ListN.{length};
-ghost use Rattle·blocks·specs.Blocks.{count-in};
+ghost use Rattle.std.specs.Prelude.{◌≡◌, length};
+ghost use Rattle.blocks.specs.Blocks.{count_in};
 
 // The bytes of a block.
 pub const BLOCK: usize = 512;
@@ -13,14 +12,14 @@ pub const BODY: usize = 504;
 
 // The bytes of the most blocks.
 pub fn longest_paper() -> usize
-    ensures { λ r. ⌜ r ≡ 51200 ⌝ }
+    ensures { result ≡ 51200 }
 {
     MOST_BLOCKS * BLOCK
 }
 
 // How many blocks the bytes are, or nothing if they are none, more than the most, or not whole blocks.
 pub fn count_blocks(bytes: &[u8]) -> Option<usize>
-    ensures { λ r. ⌜ r ≡ count-in (length (now (bytes .entry))) ⌝ }
+    ensures { result ≡ count_in (length bytes.now) }
 {
     let length = bytes.len();
     if length == 0 || length > longest_paper() || length % BLOCK != 0 {

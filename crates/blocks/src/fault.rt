@@ -1,5 +1,5 @@
-ghost use mathlib.Core.Path.{_≡_};
-ghost use Rattle·blocks·specs.Faults.{as-block-fault, figures-of};
+ghost use Rattle.std.specs.Prelude.{◌≡◌};
+ghost use Rattle.blocks.specs.Faults.{as_block_fault, figures_of};
 
 // An unfit record: its block, from 0, and its place in the block, from 1, or 0 for the bytes behind the last record.
 #[derive(Clone, Copy, PartialEq, Eq, Debug)]
@@ -22,7 +22,7 @@ pub enum BlockFault {
 impl BlockFault {
     // The fault's number, the block, and the record, or 0 where none is meant.
     pub fn figures(self) -> (u8, u8, u8)
-        ensures { λ r. ⌜ r ≡ figures-of self ⌝ }
+        ensures { result ≡ figures_of self }
     {
         match self {
             BlockFault::Checksum { block } => (14, block, 0),
@@ -32,8 +32,8 @@ impl BlockFault {
     }
 }
 
-pub impl From<RecordFault> for BlockFault as BlockFromRecord {
-    ghost converts = { λ e r. r ≡ as-block-fault e };
+impl From<RecordFault> for BlockFault {
+    ghost from_gives = { λ e r. r ≡ as_block_fault e };
 
     fn from(e: RecordFault) -> BlockFault {
         BlockFault::Record {

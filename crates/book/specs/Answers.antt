@@ -1,32 +1,29 @@
 -- The answer that a call's result stands for, and its number. Assumes nothing.
-use Prim.Native.Nat.{ℕ}
-use Rattle·std.specs.declared.option.Option.{Option}
-use Rattle·std.specs.declared.result.Result.{Result}
-use Rattle·std.specs.declared.result.Result.the-variants.{Ok, Err}
-use Rattle·seats.specs.declared.refusal.Refusal.{Refusal}
-use Rattle·seats.specs.Refusals.{refusal-number}
-use Rattle·book·specs.declared.answer.Usage.{Usage}
-use Rattle·book·specs.declared.answer.Answer.{Answer}
-use Rattle·book·specs.declared.answer.Answer.the-variants.{Tallied, Held, Sized, Refused}
+use Rattle.std.specs.Prelude.{ℕ, Ok, Err, Option, Result}
+use Rattle.seats.specs.declared.refusal.Refusal.{Refusal}
+use Rattle.seats.specs.Refusals.{refusal_number}
+use Rattle.book.specs.declared.answer.Usage.{Usage}
+use Rattle.book.specs.declared.answer.Answer.{Answer}
+use Rattle.book.specs.declared.answer.Answer.TheVariants.{Tallied, Held, Sized, Refused}
 
 -- of a call that gives a tally: a post or an erasure
-abbrev pub of-tally : {V : Type 0} → Result V Refusal → Answer V
-of-tally (Ok v) = Tallied v
-of-tally (Err why) = Refused why
+abbrev pub of_tally : {V : Type 0} → Result V Refusal → Answer V
+of_tally (Ok v) = Tallied v
+of_tally (Err why) = Refused why
 
 -- of a call that gives a tally or nothing: a reversal or a look-up
-abbrev pub of-held : {V : Type 0} → Result (Option V) Refusal → Answer V
-of-held (Ok o) = Held o
-of-held (Err why) = Refused why
+abbrev pub of_held : {V : Type 0} → Result (Option V) Refusal → Answer V
+of_held (Ok o) = Held o
+of_held (Err why) = Refused why
 
 -- of a widening or a narrowing
-abbrev pub of-usage : {V : Type 0} → Result Usage Refusal → Answer V
-of-usage (Ok n) = Sized n
-of-usage (Err why) = Refused why
+abbrev pub of_usage : {V : Type 0} → Result Usage Refusal → Answer V
+of_usage (Ok n) = Sized n
+of_usage (Err why) = Refused why
 
 -- the number of the refusal, or 0
-abbrev pub answer-number : {V : Type 0} → Answer V → ℕ
-answer-number (Tallied v) = 0
-answer-number (Held o) = 0
-answer-number (Sized n) = 0
-answer-number (Refused why) = refusal-number why
+abbrev pub answer_number : {V : Type 0} → Answer V → ℕ
+answer_number (Tallied v) = 0
+answer_number (Held o) = 0
+answer_number (Sized n) = 0
+answer_number (Refused why) = refusal_number why

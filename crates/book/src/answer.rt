@@ -1,8 +1,7 @@
-ghost use mathlib.Core.Path.{_≡_};
-ghost use Rattle·book·specs.Answers.{of-tally, of-held, of-usage, answer-number};
+ghost use Rattle.std.specs.Prelude.{◌≡◌};
+ghost use Rattle.book.specs.Answers.{of_tally, of_held, of_usage, answer_number};
+
 use seats::refusal::Refusal;
-use seats::refusal::RefusalDebug;
-use seats::refusal::RefusalPartialEq;
 
 // The rows in use, and how many fingerprints are held.
 #[derive(Clone, Copy, PartialEq, Eq, Debug)]
@@ -25,28 +24,28 @@ pub enum Answer<T> {
 }
 
 impl<T> Answer<T> {
-    pub fn of_tally(result: Result<T, Refusal>) -> Answer<T>
-        ensures { λ r. ⌜ r ≡ of-tally result ⌝ }
+    pub fn of_tally(outcome: Result<T, Refusal>) -> Answer<T>
+        ensures { result ≡ of_tally outcome }
     {
-        match result {
+        match outcome {
             Ok(tally) => Answer::Tallied(tally),
             Err(refusal) => Answer::Refused(refusal),
         }
     }
 
-    pub fn of_held(result: Result<Option<T>, Refusal>) -> Answer<T>
-        ensures { λ r. ⌜ r ≡ of-held result ⌝ }
+    pub fn of_held(outcome: Result<Option<T>, Refusal>) -> Answer<T>
+        ensures { result ≡ of_held outcome }
     {
-        match result {
+        match outcome {
             Ok(tally) => Answer::Held(tally),
             Err(refusal) => Answer::Refused(refusal),
         }
     }
 
-    pub fn of_usage(result: Result<Usage, Refusal>) -> Answer<T>
-        ensures { λ r. ⌜ r ≡ of-usage result ⌝ }
+    pub fn of_usage(outcome: Result<Usage, Refusal>) -> Answer<T>
+        ensures { result ≡ of_usage outcome }
     {
-        match result {
+        match outcome {
             Ok(rows) => Answer::Sized(rows),
             Err(refusal) => Answer::Refused(refusal),
         }
@@ -54,8 +53,7 @@ impl<T> Answer<T> {
 
     // The number of the refusal, or 0.
     pub fn number(&self) -> u8
-        ensures value { λ r. ⌜ r ≡ answer-number (now (self .entry)) ⌝ }
-        ensures kept { λ _. ⌜ now (self .exit) ≡ now (self .entry) ⌝ }
+        ensures value { result ≡ answer_number self.now }
     {
         match self {
             Answer::Tallied(_) | Answer::Held(_) | Answer::Sized(_) => 0,

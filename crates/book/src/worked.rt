@@ -1,6 +1,6 @@
-ghost use Rattle·book·specs.Worked.{Worked-cases-hold};
+ghost use Rattle.book.specs.Worked.{WorkedCasesHold};
 
 // The worked cases of the rules of places, fingerprints, tallies and the book come out as they should.
 pub fn worked_cases_hold()
-    ensures { λ _. ⌜ Worked-cases-hold ⌝ }
+    ensures { WorkedCasesHold }
 {}

@@ -1,9 +1,9 @@
 // A row of calls, for other languages.
-ghost use mathlib.Core.Path.{_≡_};
-ghost use lib.ListN.{length};
-ghost use Rattle·numbers.specs.Buffers.{put};
-ghost use Rattle·book.specs.Books.{blank};
-ghost use Rattle·exports·specs.Calls.{how-many, row-of, size-of, told};
+ghost use Rattle.std.specs.Prelude.{◌≡◌, length};
+ghost use Rattle.numbers.specs.Buffers.{put};
+ghost use Rattle.book.specs.Books.{blank};
+ghost use Rattle.exports.specs.Calls.{how_many, row_of, size_of, told};
+
 use crate::row::make_row;
 use seats::seat::Seat;
 use seats::shape::Shape;
@@ -23,8 +23,8 @@ pub extern "C" fn sundrilga_make_calls(
     calls: &[u8],
     numbers: &mut [u8],
 ) -> usize
-    ensures made { λ n. ⌜ n ≡ how-many buckets most rows (length (now (calls .entry))) (length (now (numbers .entry))) ⌝ }
-    ensures after { λ n. ⌜ now (numbers .exit) ≡ put (now (numbers .entry)) 0 (told (blank (size-of buckets most rows)) (row-of n (now (calls .entry)))) ⌝ }
+    ensures made { result ≡ how_many buckets most rows (length calls.now) (length numbers.old) }
+    ensures after { numbers.new ≡ put numbers.old 0 (told (blank (size_of buckets most rows)) (row_of result calls.now)) }
 {
     let seat = Seat {
         carry: 0,

@@ -1,8 +1,8 @@
 // A call as five bytes ask for it.
-ghost use mathlib.Core.Path.{_≡_};
-ghost use lib.ListN.{length};
-ghost use Rattle·table.specs.Requests.{asked};
-ghost use Rattle·exports·specs.Calls.{lent, piece-asks};
+ghost use Rattle.std.specs.Prelude.{◌≡◌, length};
+ghost use Rattle.table.specs.Requests.{asked};
+ghost use Rattle.exports.specs.Calls.{lent, piece_asks};
+
 use table::request::Request;
 use tallies::replicas::Replicas;
 
@@ -14,8 +14,8 @@ pub(crate) const WORDS: usize = 8192;
 
 // What five bytes ask of the table. A code that names no other call asks for a look-up.
 pub(crate) fn request_of<'k>(piece: &'k [u8]) -> Request<'k, Replicas>
-    requires { ⌜ length (now piece) ≡ 5 ⌝ }
-    ensures { λ r. ⌜ asked lent r ≡ piece-asks (now (piece .entry)) ⌝ }
+    requires { length piece.now ≡ 5 }
+    ensures { asked lent result ≡ piece_asks piece.now }
 {
     let key = &piece[1..PIECE];
     let amount = Replicas(1);

@@ -1,21 +1,16 @@
 // A row of calls, made one after another on a table that is opened for it.
-ghost use mathlib.Core.Path.{_≡_};
-ghost use Prim.Native.Nat.{_*_, _/_, min};
-ghost use lib.ListN.{length};
-ghost use Rattle·numbers.specs.Buffers.{put};
-ghost use Rattle·seats.specs.Shapes.{size};
-ghost use Rattle·book.specs.Books.{blank};
-ghost use Rattle·exports·specs.Calls.{row-of, told};
-use crate::request::PIECE;
-use crate::request::WORDS;
-use crate::request::request_of;
+ghost use Rattle.std.specs.Prelude.{◌≡◌, ◌*◌, ◌/◌, min, length};
+ghost use Rattle.numbers.specs.Buffers.{put};
+ghost use Rattle.seats.specs.Shapes.{size};
+ghost use Rattle.book.specs.Books.{blank};
+ghost use Rattle.exports.specs.Calls.{row_of, told};
+
+use crate::request::{PIECE, WORDS, request_of};
 use rules::plain_number::PlainNumber;
-use rules::plain_number::PlainNumberRule;
 use seats::seat::Seat;
 use seats::shape::Shape;
 use table::table::Table;
 use tallies::replicas::Replicas;
-use tallies::replicas::ReplicasTally;
 
 // Makes as many calls as there are pieces and places for numbers, writes each call's number into its place, and gives how many
 // were made.
@@ -25,9 +20,9 @@ pub(crate) fn make_row(
     calls: &[u8],
     numbers: &mut [u8],
 ) -> usize
-    requires { ⌜ shape .buckets * shape .most ≡ length (now seats) ⌝ }
-    ensures made { λ n. ⌜ n ≡ min (length (now (calls .entry)) / 5) (length (now (numbers .entry))) ⌝ }
-    ensures after { λ n. ⌜ now (numbers .exit) ≡ put (now (numbers .entry)) 0 (told (blank (size shape)) (row-of n (now (calls .entry)))) ⌝ }
+    requires { shape.buckets * shape.most ≡ length seats.old }
+    ensures made { result ≡ min (length calls.now / 5) (length numbers.old) }
+    ensures after { numbers.new ≡ put numbers.old 0 (told (blank (size shape)) (row_of result calls.now)) }
 {
     let mut table = Table::open(seats, shape);
     let mut words = [0; WORDS];

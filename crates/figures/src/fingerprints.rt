@@ -1,22 +1,10 @@
 // The published vectors of FNV-1a.
 use crate::tell::tell_number;
 use numbers::fnv::fnv1a;
-use std::error::AnyError;
 
 // What is hashed.
 const TEXTS: [&str; 12] = [
-    "",
-    "a",
-    "b",
-    "c",
-    "d",
-    "e",
-    "f",
-    "fo",
-    "foo",
-    "foob",
-    "fooba",
-    "foobar",
+    "", "a", "b", "c", "d", "e", "f", "fo", "foo", "foob", "fooba", "foobar",
 ];
 
 // The published number of each text, in the same order.
@@ -35,10 +23,10 @@ const NUMBERS: [u64; 12] = [
     0x85944171f73967e8,
 ];
 
-pub fn tell_all(rt: &LibcRuntime) -> Result<(), AnyError> {
+pub fn tell_all(rt: &HostRuntime) -> anyhow::Result<()> {
     for i in 0..12 {
         let text = TEXTS[i];
-        print!(rt, "FNV-1a of '{text}'")?;
+        print!(rt; "FNV-1a of '{text}'")?;
         tell_number(rt, "", NUMBERS[i], fnv1a(text.as_bytes()))?;
     }
     Ok(())

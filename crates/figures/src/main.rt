@@ -1,13 +1,13 @@
 // Compares worked figures with what the code gives, and prints each with what was expected and what came.
+#![tactic(auto)]
+
 mod fingerprints;
 mod opening;
 mod papers;
 mod samples;
 mod tell;
 
-use std::error::AnyError;
-
-fn main(rt: LibcRuntime) -> Result<(), AnyError> {
+fn main(rt: HostRuntime) -> anyhow::Result<()> {
     opening::tell_all(&rt)?;
     fingerprints::tell_all(&rt)?;
     papers::tell_all(&rt)

@@ -1,25 +1,23 @@
 // Which tables open, and which keys they take.
 use crate::tell::tell_number;
+use anyhow::anyhow;
 use rules::plain_number::PlainNumber;
-use rules::plain_number::PlainNumberRule;
 use seats::refusal::Refusal;
 use seats::seat::Seat;
 use seats::shape::Shape;
-use std::error::AnyError;
 use table::table::Table;
 use tallies::replicas::Replicas;
-use tallies::replicas::ReplicasTally;
 
 // The number of a refusal, or 0.
-fn number_of<X: Drop>(result: Result<X, Refusal>) -> u64 {
-    match result {
+fn number_of<X: Drop>(outcome: Result<X, Refusal>) -> u64 {
+    match outcome {
         Ok(_) => 0,
         Err(refusal) => u64::from(refusal.number()),
     }
 }
 
 // The number that a look-up of this key is refused with, or 0.
-fn key_number(key: &[u8]) -> Result<u64, AnyError> {
+fn key_number(key: &[u8]) -> anyhow::Result<u64> {
     let empty = Seat {
         carry: 0,
         flag: false,
@@ -27,13 +25,13 @@ fn key_number(key: &[u8]) -> Result<u64, AnyError> {
     };
     let mut seats = [empty; 2];
     let Ok(shape) = Shape::check(2, 1, 1, seats.len()) else {
-        return Err("the table does not open".into());
+        return Err(anyhow!("the table does not open"));
     };
     let table = Table::open(&mut seats, shape);
     Ok(number_of(table.look_up(&PlainNumber, key)))
 }
 
-fn tell_buckets(rt: &LibcRuntime) -> Result<(), AnyError> {
+fn tell_buckets(rt: &HostRuntime) -> anyhow::Result<()> {
     tell_number(
         rt,
         "opening 1 bucket",
@@ -60,7 +58,7 @@ fn tell_buckets(rt: &LibcRuntime) -> Result<(), AnyError> {
     )
 }
 
-fn tell_rows(rt: &LibcRuntime) -> Result<(), AnyError> {
+fn tell_rows(rt: &HostRuntime) -> anyhow::Result<()> {
     tell_number(
         rt,
         "opening 9 rows",
@@ -81,7 +79,7 @@ fn tell_rows(rt: &LibcRuntime) -> Result<(), AnyError> {
     )
 }
 
-pub fn tell_all(rt: &LibcRuntime) -> Result<(), AnyError> {
+pub fn tell_all(rt: &HostRuntime) -> anyhow::Result<()> {
     tell_buckets(rt)?;
     tell_rows(rt)?;
     tell_number(rt, "a key of 64 bytes", 0, key_number(&[1; 64])?)?;

@@ -1,39 +1,35 @@
 // Papers: the nine lines, large papers, and one damaged paper for each fault.
-use crate::samples::NINE;
-use crate::samples::large_paper;
-use crate::samples::nine_calls;
-use crate::tell::tell_lines;
-use crate::tell::tell_number;
+use crate::samples::{NINE, large_paper, nine_calls};
+use crate::tell::{tell_lines, tell_number};
+use anyhow::anyhow;
 use blocks::checksum::write_checksum;
 use numbers::fnv::fnv1a;
 use paper_writer::write::write_paper;
-use run::print::most_printed;
-use run::print::print_paper;
-use std::error::AnyError;
+use run::print::{most_printed, print_paper};
 
 // What is printed of a paper.
-fn printed(rt: &LibcRuntime, paper: &[u8]) -> Result<Vec<u8>, AnyError> {
+fn printed(rt: &HostRuntime, paper: &[u8]) -> anyhow::Result<Vec<u8>> {
     let mut out = vec![in rt.alloc(); 0; most_printed()]?;
     match print_paper(paper, out.as_mut_slice()) {
         Ok(many) => {
             out.truncate(many);
             Ok(out)
         }
-        Err(_) => Err("there is no room to print".into()),
+        Err(_) => Err(anyhow!("there is no room to print")),
     }
 }
 
 // The sample's bytes.
-fn nine_paper() -> Result<[u8; 512], AnyError> {
+fn nine_paper() -> anyhow::Result<[u8; 512]> {
     let mut paper = [0; 512];
     match write_paper(NINE, &nine_calls(), &mut paper) {
         Ok(()) => Ok(paper),
-        Err(_) => Err("the sample is not written".into()),
+        Err(_) => Err(anyhow!("the sample is not written")),
     }
 }
 
 // The sample with one byte changed, and its checksum made right again.
-fn damaged(at: usize, byte: u8) -> Result<[u8; 512], AnyError> {
+fn damaged(at: usize, byte: u8) -> anyhow::Result<[u8; 512]> {
     let mut paper = nine_paper()?;
     if at < 512 {
         paper[at] = byte;
@@ -42,12 +38,12 @@ fn damaged(at: usize, byte: u8) -> Result<[u8; 512], AnyError> {
     Ok(paper)
 }
 
-fn tell_fault(rt: &LibcRuntime, what: &str, expected: &[u8], paper: &[u8]) -> Result<(), AnyError> {
+fn tell_fault(rt: &HostRuntime, what: &str, expected: &[u8], paper: &[u8]) -> anyhow::Result<()> {
     let came = printed(rt, paper)?;
     tell_lines(rt, what, expected, came.as_slice())
 }
 
-fn tell_faults(rt: &LibcRuntime) -> Result<(), AnyError> {
+fn tell_faults(rt: &HostRuntime) -> anyhow::Result<()> {
     let mut paper = nine_paper()?;
     tell_fault(rt, "an empty paper", b"F 13 0 0\n", &paper[0..0])?;
     tell_fault(rt, "a paper that is cut", b"F 13 0 0\n", &paper[0..511])?;
@@ -88,22 +84,22 @@ fn tell_faults(rt: &LibcRuntime) -> Result<(), AnyError> {
 
 // A large paper by its rule and its kind: how many bytes are printed, and their FNV-1a number.
 fn tell_large(
-    rt: &LibcRuntime,
+    rt: &HostRuntime,
     what: &str,
     rule: u8,
     kind: u8,
     long: u64,
     hash: u64,
-) -> Result<(), AnyError> {
+) -> anyhow::Result<()> {
     let paper = large_paper(rt, rule, kind)?;
     let came = printed(rt, paper.as_slice())?;
-    print!(rt, "bytes printed of ")?;
+    print!(rt; "bytes printed of ")?;
     tell_number(rt, what, long, came.len() as u64)?;
-    print!(rt, "their FNV-1a number, ")?;
+    print!(rt; "their FNV-1a number, ")?;
     tell_number(rt, what, hash, fnv1a(came.as_slice()))
 }
 
-fn tell_sample(rt: &LibcRuntime) -> Result<(), AnyError> {
+fn tell_sample(rt: &HostRuntime) -> anyhow::Result<()> {
     let paper = nine_paper()?;
     let came = printed(rt, &paper)?;
     let expected =
@@ -111,7 +107,7 @@ fn tell_sample(rt: &LibcRuntime) -> Result<(), AnyError> {
     tell_lines(rt, "nine calls", expected, came.as_slice())
 }
 
-pub fn tell_all(rt: &LibcRuntime) -> Result<(), AnyError> {
+pub fn tell_all(rt: &HostRuntime) -> anyhow::Result<()> {
     tell_sample(rt)?;
     tell_faults(rt)?;
     tell_large(

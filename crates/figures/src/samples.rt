@@ -1,9 +1,8 @@
 // The sample paper of nine calls, and a large paper that is made by a rule.
+use anyhow::anyhow;
 use paper::header::Header;
-use paper::record::Call;
-use paper::record::Record;
+use paper::record::{Call, Record};
 use paper_writer::write::write_paper;
-use std::error::AnyError;
 
 // The sample's header.
 pub const NINE: Header = Header {
@@ -99,7 +98,7 @@ fn large_call(i: u32, traffic: bool) -> Record {
 }
 
 // A paper of 1,900 calls for 256 buckets with four rows in use of five.
-pub fn large_paper(rt: &LibcRuntime, rule: u8, kind: u8) -> Result<Vec<u8>, AnyError> {
+pub fn large_paper(rt: &HostRuntime, rule: u8, kind: u8) -> anyhow::Result<Vec<u8>> {
     let header = Header {
         buckets: 256,
         rows: 4,
@@ -114,6 +113,6 @@ pub fn large_paper(rt: &LibcRuntime, rule: u8, kind: u8) -> Result<Vec<u8>, AnyE
     let mut paper = vec![in rt.alloc(); 0; 51200]?;
     match write_paper(header, records.as_slice(), paper.as_mut_slice()) {
         Ok(()) => Ok(paper),
-        Err(_) => Err("the large paper is not written".into()),
+        Err(_) => Err(anyhow!("the large paper is not written")),
     }
 }

@@ -1,17 +1,17 @@
 // FNV-1a's published 64-bit numbers, from the list of its authors.
 use numbers::fnv::fnv1a;
-use std::test::*;
+use std::process::Abort;
 
-fn check_all(vectors: &[(&str, u64)]) -> Result<(), Fail> {
+fn check_all(rt: &impl Abort, vectors: &[(&str, u64)]) {
     for (text, number) in vectors {
-        check_eq(fnv1a(text.as_bytes()), *number).note(*text)?;
+        assert_eq!(rt; fnv1a(text.as_bytes()), *number, "{}", *text);
     }
-    Ok(())
 }
 
 #[test]
-fn published_numbers_of_short_text() -> Result<(), Fail> {
+fn published_numbers_of_short_text(rt: HostRuntime) {
     check_all(
+        &rt,
         &[
             ("", 0xcbf29ce484222325),
             ("a", 0xaf63dc4c8601ec8c),
@@ -26,12 +26,13 @@ fn published_numbers_of_short_text() -> Result<(), Fail> {
             ("fooba", 0xcac165afa2fef40a),
             ("foobar", 0x85944171f73967e8),
         ],
-    )
+    );
 }
 
 #[test]
-fn published_numbers_of_text_and_a_zero_byte() -> Result<(), Fail> {
+fn published_numbers_of_text_and_a_zero_byte(rt: HostRuntime) {
     check_all(
+        &rt,
         &[
             ("\0", 0xaf63bd4c8601b7df),
             ("a\0", 0x089be207b544f1e4),
@@ -46,12 +47,13 @@ fn published_numbers_of_text_and_a_zero_byte() -> Result<(), Fail> {
             ("fooba\0", 0x8593d371f738acfe),
             ("foobar\0", 0x34531ca7168b8f38),
         ],
-    )
+    );
 }
 
 #[test]
-fn published_numbers_of_a_sentence_as_it_grows() -> Result<(), Fail> {
+fn published_numbers_of_a_sentence_as_it_grows(rt: HostRuntime) {
     check_all(
+        &rt,
         &[
             ("ch", 0x08a25607b54a22ae),
             ("cho", 0xf5faf0190cf90df3),
@@ -70,5 +72,5 @@ fn published_numbers_of_a_sentence_as_it_grows() -> Result<(), Fail> {
             ("chongo was here!", 0x858e2fa32a55e61d),
             ("chongo was here!\n", 0x46810940eff5f915),
         ],
-    )
+    );
 }

@@ -1,4 +1,6 @@
 // Tests of numbers, rules and tallies on examples.
+#![tactic(auto)]
+
 #[cfg(test)]
 mod fnv_tests;
 #[cfg(test)]

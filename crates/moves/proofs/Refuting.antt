@@ -1,93 +1,85 @@
 -- A traversal that is stuck refutes every seating. Assumes nothing.
-use mathlib.Core.Path.{_≡_, sym, ap, subst, _∙_}
-use mathlib.Core.Bool.{Bool, true, false, not, _&&_}
-use mathlib.Core.List.{List}
-use Prim.Native.Nat.{ℕ, _+_, _-_, _*_, _/_, _%_, _≤_, _<_}
-use native.Mathlib.Omega.{arith}
-use lib.Dec.{eqb}
-use Rattle·std.proofs.shelf.Bits.{mul-le}
-use Rattle·std.proofs.shelf.Tests.{and-from, eq-eqb, ne-eqb, eqb-false, not-true, not-from-false}
-use Rattle·std.specs.Options.{isSome}
-use Rattle·std.specs.declared.option.Option.{Option}
-use Rattle·std.specs.declared.option.Option.the-variants.{None}
-use Rattle·seatings.specs.Seatings.{bucket, load, Seating, also}
-use Rattle·seatings.proofs.Pigeons.{pigeons-many}
-use Rattle·seatings.proofs.Full.{full-and-closed}
-use Rattle·seats.specs.declared.seat.Seat.{Seat}
-use Rattle·seats.specs.Shapes.{Size, Sound}
-use Rattle·seats.specs.Places.{place-of, given-back}
-use Rattle·seats.specs.Seats.{at, Sits, Shows, held}
-use Rattle·seats.proofs.Sitting.{carry-below}
-use Rattle·seats.proofs.Shown.{same-bucket, place-at, sits-back}
-use Rattle·seats.proofs.Seated.{seat-of, sits-there}
-use Rattle·moves·specs.Queue.{unseen, Seen}
-use Rattle·moves·specs.Tree.{other}
-use Rattle·moves·specs.Traversal.{Full, Stuck}
+use Rattle.std.proofs.Common.{◌≡◌, ℕ, ◌+◌, ◌-◌, ◌*◌, ◌/◌, ◌%◌, ◌<◌, ◌≤◌, Bool, true, false, not, ◌&&◌, eqb, List, is_some, None, Option, sym, ap, ◌∙◌, subst, arith}
+use Rattle.std.proofs.lemmas.Nat.{mul-le}
+use Rattle.std.proofs.lemmas.Bool.{and_from, eq-eqb, ne_eqb, eqb-false, not-true, not_from_false}
+use Rattle.seatings.specs.Seatings.{bucket, load, Seating, also}
+use Rattle.seatings.proofs.Pigeons.{pigeons_many}
+use Rattle.seatings.proofs.Full.{full_and_closed}
+use Rattle.seats.specs.declared.seat.Seat.{Seat}
+use Rattle.seats.specs.Shapes.{Size, Sound}
+use Rattle.seats.specs.Places.{place_of, given_back}
+use Rattle.seats.specs.Seats.{at, Sits, Shows, held}
+use Rattle.seats.proofs.Sitting.{carry_below}
+use Rattle.seats.proofs.Shown.{same_bucket, place_at, sits_back}
+use Rattle.seats.proofs.Seated.{seat_of, sits_there}
+use Rattle.moves.specs.Queue.{unseen, Seen}
+use Rattle.moves.specs.Tree.{other}
+use Rattle.moves.specs.Traversal.{Full, Stuck}
 
 -- the buckets that were seen, as a test
-abbrev seen-by : (ℕ → ℕ) → ℕ → Bool
-seen-by link j = not (eqb (link j) unseen)
+abbrev seen_by : (ℕ → ℕ) → ℕ → Bool
+seen_by link j = not (eqb (link j) unseen)
 
-to-seen : (link : ℕ → ℕ) (j : ℕ) → seen-by link j ≡ true → Seen link j
-to-seen link j is = eqb-false (link j) unseen (not-true (eqb (link j) unseen) is)
+to_seen : (link : ℕ → ℕ) (j : ℕ) → seen_by link j ≡ true → Seen link j
+to_seen link j is = eqb-false (link j) unseen (not-true (eqb (link j) unseen) is)
 
-from-seen : (link : ℕ → ℕ) (j : ℕ) → Seen link j → seen-by link j ≡ true
-from-seen link j s = not-from-false (eqb (link j) unseen) (ne-eqb (link j) unseen s)
+from_seen : (link : ℕ → ℕ) (j : ℕ) → Seen link j → seen_by link j ≡ true
+from_seen link j s = not_from_false (eqb (link j) unseen) (ne_eqb (link j) unseen s)
 
 -- what holds of the bucket and of the carry of a place holds of quotient and remainder
-both-buckets : (P : ℕ → Type 0) (m f : ℕ) (flag : Bool) → P (place-of m f flag .bucket) → P (place-of m f flag .carry) → P (f / m) × P (f % m)
-both-buckets P m f true here there = (here, there)
-both-buckets P m f false here there = (there, here)
+both_buckets : (P : ℕ → Type 0) (m f : ℕ) (flag : Bool) → P (place_of m f flag).bucket → P (place_of m f flag).carry → P (f / m) × P (f % m)
+both_buckets P m f true here there = (here, there)
+both_buckets P m f false here there = (there, here)
 
 module _ {X : Type 0} (e : X) {z : Size} (sound : Sound z) (seats : List (Seat X)) (entries : ℕ → Option X) (shows : Shows e seats z entries) where
   -- each entry is given the bucket that it sits in
   abbrev chosen : ℕ → Bool
-  chosen g = at e seats (seat-of e sound seats entries shows g) .flag
+  chosen g = (at e seats (seat_of e sound seats entries shows g)).flag
 
-  sits : (g : ℕ) → held entries g ≡ true → Sits e seats z g (seat-of e sound seats entries shows g)
-  sits = sits-there e sound seats entries shows
+  sits : (g : ℕ) → held entries g ≡ true → Sits e seats z g (seat_of e sound seats entries shows g)
+  sits = sits_there e sound seats entries shows
 
-  module _ (i : ℕ) (low : i < z .buckets) (full : Full e seats z i) where
+  module _ (i : ℕ) (low : i < z.buckets) (full : Full e seats z i) where
     -- the fingerprint that the seat at this row of the bucket gives back
     abbrev back : ℕ → ℕ
-    back row = given-back (z .buckets) (place-at e sound seats i row)
+    back row = given_back z.buckets (place_at e sound seats i row)
 
-    sits-at : (row : ℕ) → row < z .rows → Sits e seats z (back row) (i * z .most + row)
-    sits-at row in-rows = sits-back e sound seats entries shows i row low in-rows (full row in-rows)
+    sits_at : (row : ℕ) → row < z.rows → Sits e seats z (back row) (i * z.most + row)
+    sits_at row in_rows = sits_back e sound seats entries shows i row low in_rows (full row in_rows)
 
     -- the entries in the rows of a full bucket fill it
-    loaded : z .rows ≤ load (z .buckets) (z .range) (held entries) chosen i
+    loaded : z.rows ≤ load z.buckets z.range (held entries) chosen i
     loaded =
-        pigeons-many (λ g. held entries g && eqb (bucket (z .buckets) chosen g) i) (z .range) (z .rows) back
-        (λ row in-rows.
+        pigeons_many (λ g. held entries g && eqb (bucket z.buckets chosen g) i) z.range z.rows back
+        (λ row in_rows.
         let g = back row in
-        let s = sits-at row in-rows in
-        let is-held : held entries g ≡ true = ap isSome (shows .told g (i * z .most + row) s) in
-        let same = shows .alone g (seat-of e sound seats entries shows g) (i * z .most + row) (sits g is-held) s in
-        let own : i ≡ s .bucket = same-bucket e sound i row (s .bucket) (s .row) in-rows (s .in-rows) (s .lies) in
-        let given : bucket (z .buckets) chosen g ≡ i = ap (λ n. place-of (z .buckets) g (at e seats n .flag) .bucket) same ∙ sym (own ∙ s .home) in
-        (s .below, and-from (held entries g) (eqb (bucket (z .buckets) chosen g) i) is-held (eq-eqb (bucket (z .buckets) chosen g) i given)))
-        (λ row row′ h h′ same.
-        let one = shows .alone (back row) (i * z .most + row) (i * z .most + row′) (sits-at row h) (subst (λ g. Sits e seats z g (i * z .most + row′)) (sym same) (sits-at row′ h′)) in
+        let s = sits_at row in_rows in
+        let is_held : held entries g ≡ true = ap is_some (shows.told g (i * z.most + row) s) in
+        let same = shows.alone g (seat_of e sound seats entries shows g) (i * z.most + row) (sits g is_held) s in
+        let own : i ≡ s.bucket = same_bucket e sound i row s.bucket s.row in_rows s.in_rows s.lies in
+        let given : bucket z.buckets chosen g ≡ i = ap (λ n. (place_of z.buckets g (at e seats n).flag).bucket) same ∙ sym (own ∙ s.home) in
+        (s.below, and_from (held entries g) (eqb (bucket z.buckets chosen g) i) is_held (eq-eqb (bucket z.buckets chosen g) i given)))
+        (λ row row' h h' same.
+        let one = shows.alone (back row) (i * z.most + row) (i * z.most + row') (sits_at row h) (subst (λ g. Sits e seats z g (i * z.most + row')) (sym same) (sits_at row' h')) in
         omega arith)
 
-  pub unseatable : (f : ℕ) (link : ℕ → ℕ) → f < z .range → entries f ≡ None → Stuck e seats z f link → Seating (z .buckets) (z .rows) (z .range) (also f (held entries)) → ⊥
+  pub unseatable : (f : ℕ) (link : ℕ → ℕ) → f < z.range → entries f ≡ None → Stuck e seats z f link → Seating z.buckets z.rows z.range (also f (held entries)) → ⊥
   unseatable f link below none stuck =
-      full-and-closed (z .buckets) (z .rows) (z .range) (held entries) chosen f (seen-by link)
+      full_and_closed z.buckets z.rows z.range (held entries) chosen f (seen_by link)
       (record {
-        small = omega (arith, sound .small, mul-le (z .buckets) (z .buckets - 1) (z .buckets) (z .buckets) (omega arith) (omega arith));
+        small = omega (arith, sound.small, mul-le z.buckets (z.buckets - 1) z.buckets z.buckets (omega arith) (omega arith));
         new = below;
-        unheld = ap isSome none;
-        quotient = from-seen link (f / z .buckets) (stuck .quotient);
-        remainder = from-seen link (f % z .buckets) (stuck .remainder);
-        full = λ i low v. loaded i low (stuck .full i low (to-seen link i v));
-        stays = λ g low is-held v.
-            let s = sits g is-held in
+        unheld = ap is_some none;
+        quotient = from_seen link (f / z.buckets) stuck.quotient;
+        remainder = from_seen link (f % z.buckets) stuck.remainder;
+        full = λ i low v. loaded i low (stuck.full i low (to_seen link i v));
+        stays = λ g low is_held v.
+            let s = sits g is_held in
             let flag = chosen g in
-            let here : Seen link (s .bucket) = subst (Seen link) (sym (s .home)) (to-seen link (place-of (z .buckets) g flag .bucket) v) in
-            let leads : other e seats z (s .bucket) (s .row) ≡ place-of (z .buckets) g flag .carry = ap (λ n. at e seats n .carry) (sym (s .lies)) ∙ s .carried in
-            let there : Seen link (other e seats z (s .bucket) (s .row)) =
-            stuck .closed (s .bucket) (s .row) (s .in-table) here (s .in-rows) (subst (λ n. n < z .buckets) (sym leads) (carry-below sound g (s .below) flag))
+            let here : Seen link s.bucket = subst (Seen link) (sym s.home) (to_seen link (place_of z.buckets g flag).bucket v) in
+            let leads : other e seats z s.bucket s.row ≡ (place_of z.buckets g flag).carry = ap (λ n. (at e seats n).carry) (sym s.lies) ∙ s.carried in
+            let there : Seen link (other e seats z s.bucket s.row) =
+            stuck.closed s.bucket s.row s.in_table here s.in_rows (subst (λ n. n < z.buckets) (sym leads) (carry_below sound g s.below flag))
             in
-            both-buckets (λ b. seen-by link b ≡ true) (z .buckets) g flag v (from-seen link (place-of (z .buckets) g flag .carry) (subst (Seen link) leads there));
+            both_buckets (λ b. seen_by link b ≡ true) z.buckets g flag v (from_seen link (place_of z.buckets g flag).carry (subst (Seen link) leads there));
       })

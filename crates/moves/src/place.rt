@@ -1,15 +1,11 @@
 // Placing a new entry: in a free seat of its own buckets, or else by moves.
-ghost use mathlib.Core.Logic.{_⊎_};
-ghost use mathlib.Core.Path.{_≡_};
-ghost use Prim.Native.Nat.{_*_, _<_, _≤_};
-ghost use lib.ListN.{length};
-ghost use Rattle·std.specs.Options.{Cases};
-ghost use Rattle·seats.specs.Shapes.{size};
-ghost use Rattle·moves·specs.Opening.{Crowded, First, Ready, NotReady};
-ghost use Rattle·moves·specs.Placed.{Placed, Spared, SparesPast};
+ghost use Rattle.std.specs.Prelude.{◌≡◌, ◌*◌, ◌<◌, ◌≤◌, ◌⊎◌, length, MatchOption};
+ghost use Rattle.seats.specs.Shapes.{size};
+ghost use Rattle.moves.specs.Opening.{Crowded, First, Ready, NotReady};
+ghost use Rattle.moves.specs.Placed.{Placed, Spared, SparesPast};
+
 use crate::traversal::nearest_free;
-use crate::walk::enter;
-use crate::walk::walk_back;
+use crate::walk::{enter, walk_back};
 use seats::find::free_seat;
 use seats::refusal::Refusal;
 use seats::seat::Seat;
@@ -18,9 +14,9 @@ use tallies::tally::Tally;
 
 // The first free seat of the fingerprint's own buckets, the quotient's before the remainder's.
 fn own_seat<T: Tally + Copy>(seats: &[Seat<T>], shape: Shape, fingerprint: u32) -> Option<usize>
-    ensures { λ r. ⌜ Cases r
-        (Crowded (T·Tally .kind .empty) (now (seats .entry)) (size shape) fingerprint)
-        (λ i. First (T·Tally .kind .empty) (now (seats .entry)) (size shape) fingerprint i) ⌝ }
+    ensures { MatchOption result
+        (Crowded T.Tally.kind.empty seats.now (size shape) fingerprint)
+        (λ i. First T.Tally.kind.empty seats.now (size shape) fingerprint i) }
 {
     if let Some(i) = free_seat(seats, shape, shape.place(fingerprint, true).bucket) {
         return Some(i);
@@ -35,12 +31,12 @@ fn open_seat<T: Tally + Copy>(
     fingerprint: u32,
     words: &mut [u32],
 ) -> Option<usize>
-    requires sizes { ⌜ (length (now seats) ≡ shape .buckets * shape .most) × (2 * shape .buckets ≤ length (now words)) ⌝ }
-    requires below { ⌜ fingerprint < size shape .range ⌝ }
-    ensures seat { λ r. ⌜ Cases r
-        (NotReady (T·Tally .kind .empty) (now (seats .entry)) (now (seats .exit)) (size shape) fingerprint)
-        (λ hole. Ready (T·Tally .kind .empty) (now (seats .entry)) (now (seats .exit)) (size shape) fingerprint hole) ⌝ }
-    ensures spared { λ _. ⌜ (now (words .exit) ≡ now (words .entry)) ⊎ Crowded (T·Tally .kind .empty) (now (seats .entry)) (size shape) fingerprint ⌝ }
+    requires sizes { (length seats.old ≡ shape.buckets * shape.most) × (2 * shape.buckets ≤ length words.old) }
+    requires below { fingerprint < (size shape).range }
+    ensures seat { MatchOption result
+        (NotReady T.Tally.kind.empty seats.old seats.new (size shape) fingerprint)
+        (λ hole. Ready T.Tally.kind.empty seats.old seats.new (size shape) fingerprint hole) }
+    ensures spared { (words.new ≡ words.old) ⊎ Crowded T.Tally.kind.empty seats.old (size shape) fingerprint }
 {
     if let Some(i) = own_seat(seats, shape, fingerprint) {
         return Some(i);
@@ -61,9 +57,9 @@ pub fn place<T: Tally + Copy>(
     tally: T,
     words: &mut [u32],
 ) -> Result<(), Refusal>
-    ensures placed { λ r. ⌜ Placed (T·Tally .kind) (now (seats .entry)) (now (seats .exit)) (size shape) fingerprint tally (length (now (words .entry))) r ⌝ }
-    ensures spared { λ _. ⌜ Spared (T·Tally .kind) (now (seats .entry)) (size shape) fingerprint tally (now (words .entry)) (now (words .exit)) ⌝ }
-    ensures past { λ _. ⌜ SparesPast (2 * shape .buckets) (now (words .entry)) (now (words .exit)) ⌝ }
+    ensures placed { Placed T.Tally.kind seats.old seats.new (size shape) fingerprint tally (length words.old) result }
+    ensures spared { Spared T.Tally.kind seats.old (size shape) fingerprint tally words.old words.new }
+    ensures past { SparesPast (2 * shape.buckets) words.old words.new }
 {
     if seats.len() != shape.seats() {
         return Err(Refusal::Seats);

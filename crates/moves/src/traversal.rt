@@ -5,16 +5,13 @@
 // The queue has the link of each bucket that was reached, from which follows the bucket, and the slot of a bucket names its
 // place in the queue. Slots are never cleared: one of a bucket that was not reached names no place before the end of the
 // queue, or that of another bucket. The stamp of a slot saves that comparison for most of what other traversals left there.
-ghost use mathlib.Core.Path.{_≡_};
-ghost use Prim.Native.Nat.{ℕ, _*_, _<_, _≤_};
-ghost use lib.ListN.{length};
-ghost use Rattle·std.specs.Options.{Cases};
-ghost use Rattle·std.specs.Orderings.{Decides};
-ghost use Rattle·seats.specs.Shapes.{size};
-ghost use Rattle·moves·specs.Queue.{unseen};
-ghost use Rattle·moves·specs.Words.{line-of, slot, link-of, Queued, Begins};
-ghost use Rattle·moves·specs.Traversal.{UnderWay, Arrived, Expanded, Stuck, Found};
-ghost use Rattle·moves·specs.Opening.{Crowded};
+ghost use Rattle.std.specs.Prelude.{◌≡◌, ℕ, ◌*◌, ◌<◌, ◌≤◌, length, Decides, MatchOption};
+ghost use Rattle.seats.specs.Shapes.{size};
+ghost use Rattle.moves.specs.Queue.{unseen};
+ghost use Rattle.moves.specs.Words.{line_of, slot, link_of, Queued, Begins};
+ghost use Rattle.moves.specs.Traversal.{UnderWay, Arrived, Expanded, Stuck, Found};
+ghost use Rattle.moves.specs.Opening.{Crowded};
+
 use seats::find::free_seat;
 use seats::seat::Seat;
 use seats::shape::Shape;
@@ -45,8 +42,8 @@ fn bucket_at<T: Tally + Copy>(
     queue: &[u32],
     place: u32,
 ) -> u32
-    requires { ⌜ place < length (now queue) ⌝ }
-    ensures { λ r. ⌜ r ≡ line-of (T·Tally .kind .empty) (now (seats .entry)) (size shape) fingerprint (now (queue .entry)) place ⌝ }
+    requires { place < length queue.now }
+    ensures { result ≡ line_of T.Tally.kind.empty seats.now (size shape) fingerprint queue.now place }
 {
     let link = queue[place as usize] as usize;
     if link >= seats.len() {
@@ -58,8 +55,8 @@ fn bucket_at<T: Tally + Copy>(
 
 // The slot of a bucket at this place of the queue.
 fn slot_at(fingerprint: u32, place: u32) -> u32
-    requires { ⌜ place < 4096 ⌝ }
-    ensures { λ r. ⌜ r ≡ slot fingerprint place ⌝ }
+    requires { place < 4096 }
+    ensures { result ≡ slot fingerprint place }
 {
     fingerprint % STAMPS * PLACES + place
 }
@@ -74,8 +71,8 @@ fn is_seen<T: Tally + Copy>(
     tail: u32,
     bucket: u32,
 ) -> bool
-    requires { ⌜ (bucket < length (now slots)) × (tail ≤ length (now queue)) ⌝ }
-    ensures { λ r. ⌜ Decides r (Queued (T·Tally .kind .empty) (now (seats .entry)) (size shape) fingerprint (now (slots .entry)) (now (queue .entry)) tail bucket) ⌝ }
+    requires { (bucket < length slots.now) × (tail ≤ length queue.now) }
+    ensures { Decides result (Queued T.Tally.kind.empty seats.now (size shape) fingerprint slots.now queue.now tail bucket) }
 {
     let slot = slots[bucket as usize];
     if slot / PLACES != fingerprint % STAMPS {
@@ -90,9 +87,9 @@ fn is_seen<T: Tally + Copy>(
 
 // Begins with the two buckets of the fingerprint alone. Gives the end of the queue.
 fn begin(shape: Shape, fingerprint: u32, slots: &mut [u32], queue: &mut [u32]) -> u32
-    requires below { ⌜ fingerprint < size shape .range ⌝ }
-    requires sizes { ⌜ (length (now slots) ≡ shape .buckets) × (shape .buckets ≤ length (now queue)) ⌝ }
-    ensures { λ r. ⌜ Begins (size shape) fingerprint (now (slots .entry)) (now (queue .entry)) (now (slots .exit)) (now (queue .exit)) r ⌝ }
+    requires below { fingerprint < (size shape).range }
+    requires sizes { (length slots.old ≡ shape.buckets) × (shape.buckets ≤ length queue.old) }
+    ensures { Begins (size shape) fingerprint slots.old queue.old slots.new queue.new result }
 {
     let quotient = shape.place(fingerprint, true).bucket;
     let remainder = shape.place(fingerprint, false).bucket;
@@ -117,10 +114,10 @@ fn reach<T: Tally + Copy>(
     bucket: u32,
     link: u32,
 ) -> Expansion
-    requires sizes { ⌜ (bucket < length (now slots)) × (tail ≤ length (now queue)) ⌝ }
-    requires room { ⌜ (link-of (T·Tally .kind .empty) (now seats) (size shape) fingerprint (now slots) (now queue) tail bucket ≡ unseen →
-        (tail < shape .buckets) × (tail < length (now queue))) ⌝ }
-    ensures { λ r. ⌜ Arrived (T·Tally .kind .empty) (now (seats .entry)) (size shape) fingerprint (now (slots .entry)) (now (queue .entry)) tail bucket link (now (slots .exit)) (now (queue .exit)) r ⌝ }
+    requires sizes { (bucket < length slots.old) × (tail ≤ length queue.old) }
+    requires room { link_of T.Tally.kind.empty seats.now (size shape) fingerprint slots.old queue.old tail bucket ≡ unseen →
+        (tail < shape.buckets) × (tail < length queue.old) }
+    ensures { Arrived T.Tally.kind.empty seats.now (size shape) fingerprint slots.old queue.old tail bucket link slots.new queue.new result }
 {
     if is_seen(seats, shape, fingerprint, slots, queue, tail, bucket) {
         return Expansion::Full(tail);
@@ -144,10 +141,10 @@ fn expand<T: Tally + Copy>(
     head: u32,
     tail: u32,
 ) -> Expansion
-    requires sizes { ⌜ (length (now seats) ≡ shape .buckets * shape .most) × (length (now slots) ≡ shape .buckets) × (shape .buckets ≤ length (now queue)) ⌝ }
-    requires on { ⌜ head < tail ⌝ }
-    requires under { ⌜ UnderWay (T·Tally .kind .empty) (now seats) (size shape) fingerprint (now slots) (now queue) head tail ⌝ }
-    ensures { λ r. ⌜ Expanded (T·Tally .kind .empty) (now (seats .entry)) (size shape) fingerprint (now (slots .exit)) (now (queue .exit)) head r ⌝ }
+    requires sizes { (length seats.now ≡ shape.buckets * shape.most) × (length slots.old ≡ shape.buckets) × (shape.buckets ≤ length queue.old) }
+    requires on { head < tail }
+    requires under { UnderWay T.Tally.kind.empty seats.now (size shape) fingerprint slots.old queue.old head tail }
+    ensures { Expanded T.Tally.kind.empty seats.now (size shape) fingerprint slots.new queue.new head result }
 {
     let first = bucket_at(seats, shape, fingerprint, queue, head) * shape.most;
     let mut end = tail;
@@ -173,12 +170,12 @@ pub(crate) fn nearest_free<T: Tally + Copy>(
     slots: &mut [u32],
     queue: &mut [u32],
 ) -> Option<usize>
-    requires sizes { ⌜ (length (now seats) ≡ shape .buckets * shape .most) × (length (now slots) ≡ shape .buckets) × (shape .buckets ≤ length (now queue)) ⌝ }
-    requires below { ⌜ fingerprint < size shape .range ⌝ }
-    requires crowded { ⌜ Crowded (T·Tally .kind .empty) (now seats) (size shape) fingerprint ⌝ }
-    ensures { λ r. ⌜ Cases r
-        ((link : ℕ → ℕ) × Stuck (T·Tally .kind .empty) (now (seats .entry)) (size shape) fingerprint link)
-        (λ i. (link : ℕ → ℕ) × Found (T·Tally .kind .empty) (now (seats .entry)) (size shape) fingerprint (now (slots .exit)) (now (queue .exit)) link i) ⌝ }
+    requires sizes { (length seats.now ≡ shape.buckets * shape.most) × (length slots.old ≡ shape.buckets) × (shape.buckets ≤ length queue.old) }
+    requires below { fingerprint < (size shape).range }
+    requires crowded { Crowded T.Tally.kind.empty seats.now (size shape) fingerprint }
+    ensures { MatchOption result
+        ((link : ℕ → ℕ) × Stuck T.Tally.kind.empty seats.now (size shape) fingerprint link)
+        (λ i. (link : ℕ → ℕ) × Found T.Tally.kind.empty seats.now (size shape) fingerprint slots.new queue.new link i) }
 {
     let mut tail = begin(shape, fingerprint, slots, queue);
     let mut head = 0;

@@ -1,22 +1,20 @@
 // The moves along a chain that the traversal found, and the entry of a new fingerprint.
-ghost use mathlib.Core.Path.{_≡_};
-ghost use Prim.Native.Nat.{ℕ, _*_, _<_};
-ghost use lib.ListN.{length, set};
-ghost use Rattle·seats.specs.Shapes.{size};
-ghost use Rattle·moves·specs.Queue.{root};
-ghost use Rattle·moves·specs.Words.{spot, word-of};
-ghost use Rattle·moves·specs.Traversal.{Chain};
-ghost use Rattle·moves·specs.Walk.{moved, entered, Opened};
-use crate::traversal::PLACES;
-use crate::traversal::ROOT;
+ghost use Rattle.std.specs.Prelude.{◌≡◌, ℕ, ◌*◌, ◌<◌, length, slice_set};
+ghost use Rattle.seats.specs.Shapes.{size};
+ghost use Rattle.moves.specs.Queue.{root};
+ghost use Rattle.moves.specs.Words.{spot, word_of};
+ghost use Rattle.moves.specs.Traversal.{Chain};
+ghost use Rattle.moves.specs.Walk.{moved, entered, Opened};
+
+use crate::traversal::{PLACES, ROOT};
 use seats::seat::Seat;
 use seats::shape::Shape;
 use tallies::tally::Tally;
 
 // Moves the entry of the seat `from`, in `bucket`, on to the free seat `hole` of its other bucket.
 fn move_entry<T: Tally + Copy>(seats: &mut [Seat<T>], from: usize, bucket: u32, hole: usize)
-    requires { ⌜ (from < length (now seats)) × (hole < length (now seats)) ⌝ }
-    ensures { λ _. ⌜ now (seats .exit) ≡ set (now (seats .entry)) hole (moved (T·Tally .kind .empty) (now (seats .entry)) from bucket) ⌝ }
+    requires { (from < length seats.old) × (hole < length seats.old) }
+    ensures { seats.new ≡ slice_set seats.old hole (moved T.Tally.kind.empty seats.old from bucket) }
 {
     let entry = seats[from];
     seats[hole] = Seat {
@@ -28,8 +26,8 @@ fn move_entry<T: Tally + Copy>(seats: &mut [Seat<T>], from: usize, bucket: u32, 
 
 // The link of a bucket that the traversal reached.
 fn link_of(slots: &[u32], queue: &[u32], bucket: usize) -> u32
-    requires { ⌜ (bucket < length (now slots)) × (spot (now slots) bucket < length (now queue)) ⌝ }
-    ensures { λ r. ⌜ r ≡ word-of (now (slots .entry)) (now (queue .entry)) bucket ⌝ }
+    requires { (bucket < length slots.now) × (spot slots.now bucket < length queue.now) }
+    ensures { result ≡ word_of slots.now queue.now bucket }
 {
     queue[(slots[bucket] % PLACES) as usize]
 }
@@ -43,10 +41,10 @@ pub(crate) fn walk_back<T: Tally + Copy>(
     queue: &[u32],
     free: usize,
 ) -> usize
-    requires sizes { ⌜ (length (now seats) ≡ shape .buckets * shape .most) × (length (now slots) ≡ shape .buckets) ⌝ }
-    requires chain { ⌜ ((link : ℕ → ℕ) × Chain (T·Tally .kind .empty) (now seats) (size shape) (now slots) (now queue) link free) ⌝ }
-    ensures { λ r. ⌜ ((link : ℕ → ℕ) → Chain (T·Tally .kind .empty) (now (seats .entry)) (size shape) (now (slots .entry)) (now (queue .entry)) link free →
-        (bucket : ℕ) × (link bucket ≡ root) × Opened (T·Tally .kind .empty) (now (seats .entry)) (now (seats .exit)) (size shape) bucket r) ⌝ }
+    requires sizes { (length seats.old ≡ shape.buckets * shape.most) × (length slots.now ≡ shape.buckets) }
+    requires chain { (link : ℕ → ℕ) × Chain T.Tally.kind.empty seats.old (size shape) slots.now queue.now link free }
+    ensures { (link : ℕ → ℕ) → Chain T.Tally.kind.empty seats.old (size shape) slots.now queue.now link free →
+        (bucket : ℕ) × (link bucket ≡ root) × Opened T.Tally.kind.empty seats.old seats.new (size shape) bucket result }
 {
     let mut hole = free;
     let mut link = link_of(slots, queue, hole / shape.most as usize);
@@ -68,8 +66,8 @@ pub(crate) fn enter<T: Tally + Copy>(
     tally: T,
     hole: usize,
 )
-    requires { ⌜ hole < length (now seats) ⌝ }
-    ensures { λ _. ⌜ now (seats .exit) ≡ set (now (seats .entry)) hole (entered (size shape) fingerprint hole tally) ⌝ }
+    requires { hole < length seats.old }
+    ensures { seats.new ≡ slice_set seats.old hole (entered (size shape) fingerprint hole tally) }
 {
     let quotient = shape.place(fingerprint, true).bucket;
     let flag = hole / shape.most as usize == quotient as usize;

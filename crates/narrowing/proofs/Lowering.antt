@@ -1,331 +1,321 @@
 -- One entry of the last row in use, seated in the rows below it. Assumes nothing.
-use mathlib.Core.Path.{_≡_, refl, sym, ap, subst, _∙_}
-use mathlib.Core.Bool.{Bool, true, false, cond, not, _||_}
-use mathlib.Core.List.{List}
-use mathlib.Core.Logic.{_⊎_, inl, inr, ⊎-elim}
-use Prim.Native.Nat.{ℕ, _+_, _-_, _*_, _%_, _<_, _≤_}
-use native.Mathlib.Omega.{arith}
-use lib.Dec.{eqb, ltb}
-use lib.ListN.{length, set}
-use Rattle·std.proofs.shelf.Bits.{mod-mul-add, mul-add-lt}
-use Rattle·std.proofs.shelf.Lists.{getD-set-same, getD-set-other}
-use Rattle·std.proofs.shelf.Tests.{cond-true, cond-false, cases-bool, cases-eq, cases-lt, eqb-true, eqb-false, eq-eqb, lt-ltb, le-ltb, ltb-true, ltb-false}
-use Rattle·std.proofs.iter.runs.Lists.{none-some}
-use Rattle·std.specs.declared.option.Option.{Option}
-use Rattle·std.specs.declared.option.Option.the-variants.{Some, None}
-use Rattle·std.specs.Options.{isSome}
-use Rattle·tallies.specs.Kinds.{Kind, Lawful}
-use Rattle·seatings.specs.Seatings.{Seating, also}
-use Rattle·seatings.proofs.Fewer.{seating-fewer}
-use Rattle·seats.specs.declared.refusal.Refusal.{Refusal}
-use Rattle·seats.specs.declared.refusal.Refusal.the-variants.{Seats, Words, NoAmount}
-use Rattle·seats.specs.declared.seat.Seat.{Seat}
-use Rattle·seats.specs.Shapes.{Size, Sound}
-use Rattle·seats.specs.Places.{given-back}
-use Rattle·seats.specs.Seats.{Filled, Shows, Sits, at, vacant, held, changed}
-use Rattle·seats.proofs.Sitting.{sits-in-rows}
-use Rattle·seats.proofs.Shown.{none-since, sits-kept, sits-one, same-bucket, place-at, sits-back}
-use Rattle·seats.proofs.Seated.{seat-of, sits-there}
-use Rattle·moves.specs.Opening.{Unseatable}
-use Rattle·moves.specs.Placed.{Accepted, Refused, place-refusal}
-use Rattle·narrowing·specs.Narrowed.{narrower, last-seat, Shifted, Lowered}
+use Rattle.std.proofs.Common.{◌≡◌, ℕ, ◌+◌, ◌-◌, ◌*◌, ◌%◌, ◌<◌, ◌≤◌, Bool, true, false, cond, not, ◌||◌, eqb, ltb, ◌⊎◌, List, length, set, is_some, Some, None, Option, sym, refl, ap, ◌∙◌, subst, inl, inr, ⊎_elim, arith}
+use Rattle.std.proofs.lemmas.Nat.{mod-mul-add, mul-add-lt}
+use Rattle.std.proofs.lemmas.List.{get_or-set_same, get_or-set_other}
+use Rattle.std.proofs.lemmas.Bool.{cond-true, cond-false, cases_Bool, cases_eq, cases_lt, eqb-true, eqb-false, eq-eqb, lt-ltb, le-ltb, ltb-true, ltb-false}
+use Rattle.std.proofs.iter.runs.Lists.{none-some}
+use Rattle.tallies.specs.Kinds.{Kind, Lawful}
+use Rattle.seatings.specs.Seatings.{Seating, also}
+use Rattle.seatings.proofs.Fewer.{seating_fewer}
+use Rattle.seats.specs.declared.refusal.Refusal.{Refusal}
+use Rattle.seats.specs.declared.refusal.Refusal.TheVariants.{Seats, Words, NoAmount}
+use Rattle.seats.specs.declared.seat.Seat.{Seat}
+use Rattle.seats.specs.Shapes.{Size, Sound}
+use Rattle.seats.specs.Places.{given_back}
+use Rattle.seats.specs.Seats.{Filled, Shows, Sits, at, vacant, held, changed}
+use Rattle.seats.proofs.Sitting.{sits_in_rows}
+use Rattle.seats.proofs.Shown.{none_since, sits_kept, sits_one, same_bucket, place_at, sits_back}
+use Rattle.seats.proofs.Seated.{seat_of, sits_there}
+use Rattle.moves.specs.Opening.{Unseatable}
+use Rattle.moves.specs.Placed.{Accepted, Refused, place_refusal}
+use Rattle.narrowing.specs.Narrowed.{narrower, last_seat, Shifted, Lowered}
 
-module _ {X : Type 0} (e : X) {z : Size} (sound : Sound z) (more : 1 < z .rows) where
+module _ {X : Type 0} (e : X) {z : Size} (sound : Sound z) (more : 1 < z.rows) where
   -- the rows below are rows in use
   abbrev raised : (xs : List (Seat X)) (f i : ℕ) → Sits e xs (narrower z) f i → Sits e xs z f i
-  raised xs f i s = sits-in-rows e xs (narrower z) (z .rows) f i s (omega (arith, s .in-rows))
+  raised xs f i s = sits_in_rows e xs (narrower z) z.rows f i s (omega (arith, s.in_rows))
 
-  abbrev lowered : (xs : List (Seat X)) (f i : ℕ) (s : Sits e xs z f i) → s .row < z .rows - 1 → Sits e xs (narrower z) f i
-  lowered xs f i s low = sits-in-rows e xs z (z .rows - 1) f i s low
+  abbrev lowered : (xs : List (Seat X)) (f i : ℕ) (s : Sits e xs z f i) → s.row < z.rows - 1 → Sits e xs (narrower z) f i
+  lowered xs f i s low = sits_in_rows e xs z (z.rows - 1) f i s low
 
   -- a seat has one row
-  row-is : (xs : List (Seat X)) (f i : ℕ) (s : Sits e xs z f i) → i % z .most ≡ s .row
-  row-is xs f i s = ap (λ n. n % z .most) (s .lies) ∙ mod-mul-add (s .bucket) (z .most) (s .row) (omega (arith, s .in-rows, sound .within))
+  row_is : (xs : List (Seat X)) (f i : ℕ) (s : Sits e xs z f i) → i % z.most ≡ s.row
+  row_is xs f i s = ap (λ n. n % z.most) s.lies ∙ mod-mul-add s.bucket z.most s.row (omega (arith, s.in_rows, sound.within))
 
-  last-row : (bucket : ℕ) → last-seat z bucket % z .most ≡ z .rows - 1
-  last-row bucket = mod-mul-add bucket (z .most) (z .rows - 1) (omega (arith, sound .within))
+  last_row : (bucket : ℕ) → last_seat z bucket % z.most ≡ z.rows - 1
+  last_row bucket = mod-mul-add bucket z.most (z.rows - 1) (omega (arith, sound.within))
 
   -- the entries in the rows below
   module _ (xs : List (Seat X)) (entries : ℕ → Option X) (shows : Shows e xs z entries) where
-    abbrev is-low : ℕ → Bool
-    is-low g = ltb (seat-of e sound xs entries shows g % z .most) (z .rows - 1)
+    abbrev is_low : ℕ → Bool
+    is_low g = ltb (seat_of e sound xs entries shows g % z.most) (z.rows - 1)
 
     abbrev pub low : ℕ → Option X
-    low g = cond (is-low g) (entries g) None
+    low g = cond (is_low g) (entries g) None
 
-    sits-low : (g : ℕ) (t : X) → low g ≡ Some t → (entries g ≡ Some t) × Sits e xs (narrower z) g (seat-of e sound xs entries shows g)
-    sits-low g t is =
-        ⊎-elim
-        (λ (yes : is-low g ≡ true).
-        let entry : entries g ≡ Some t = sym (cond-true (is-low g) (entries g) None yes) ∙ is in
-        let s = sits-there e sound xs entries shows g (ap isSome entry) in
-        let row = row-is xs g (seat-of e sound xs entries shows g) s in
-        (entry, lowered xs g (seat-of e sound xs entries shows g) s (omega (arith, ltb-true (seat-of e sound xs entries shows g % z .most) (z .rows - 1) yes))))
-        (λ (no : is-low g ≡ false). absurd (none-some t (sym (cond-false (is-low g) (entries g) None no) ∙ is)))
-        (cases-bool (is-low g))
+    sits_low : (g : ℕ) (t : X) → low g ≡ Some t → (entries g ≡ Some t) × Sits e xs (narrower z) g (seat_of e sound xs entries shows g)
+    sits_low g t is =
+        ⊎_elim
+        (λ (yes : is_low g ≡ true).
+        let entry : entries g ≡ Some t = sym (cond-true (is_low g) (entries g) None yes) ∙ is in
+        let s = sits_there e sound xs entries shows g (ap is_some entry) in
+        let row = row_is xs g (seat_of e sound xs entries shows g) s in
+        (entry, lowered xs g (seat_of e sound xs entries shows g) s (omega (arith, ltb-true (seat_of e sound xs entries shows g % z.most) (z.rows - 1) yes))))
+        (λ (no : is_low g ≡ false). absurd (none-some t (sym (cond-false (is_low g) (entries g) None no) ∙ is)))
+        (cases_Bool (is_low g))
 
-    low-from : (g i : ℕ) → Sits e xs (narrower z) g i → low g ≡ Some (at e xs i .tally)
-    low-from g i s =
-        let s′ = raised xs g i s in
-        let entry = shows .told g i s′ in
-        let there = sits-there e sound xs entries shows g (ap isSome entry) in
-        let same : seat-of e sound xs entries shows g ≡ i = shows .alone g (seat-of e sound xs entries shows g) i there s′ in
-        let row = row-is xs g i s′ in
-        let yes : is-low g ≡ true = lt-ltb (seat-of e sound xs entries shows g % z .most) (z .rows - 1) (omega (arith, ap (λ n. n % z .most) same, s .in-rows)) in
-        cond-true (is-low g) (entries g) None yes ∙ entry
+    low_from : (g i : ℕ) → Sits e xs (narrower z) g i → low g ≡ Some (at e xs i).tally
+    low_from g i s =
+        let s' = raised xs g i s in
+        let entry = shows.told g i s' in
+        let there = sits_there e sound xs entries shows g (ap is_some entry) in
+        let same : seat_of e sound xs entries shows g ≡ i = shows.alone g (seat_of e sound xs entries shows g) i there s' in
+        let row = row_is xs g i s' in
+        let yes : is_low g ≡ true = lt-ltb (seat_of e sound xs entries shows g % z.most) (z.rows - 1) (omega (arith, ap (λ n. n % z.most) same, s.in_rows)) in
+        cond-true (is_low g) (entries g) None yes ∙ entry
 
-    pub low-shown : Shows e xs (narrower z) low
-    low-shown = record {
-      gives-back = λ bucket row b r filled.
-          let (g, s) = shows .gives-back bucket row b (omega arith) filled in
-          let same : row ≡ s .row = sym (mod-mul-add bucket (z .most) row (omega (arith, sound .within))) ∙ row-is xs g (bucket * z .most + row) s in
-          (g, lowered xs g (bucket * z .most + row) s (omega arith));
-      told = low-from;
-      seated = λ g t is. (seat-of e sound xs entries shows g, sits-low g t is .1);
-      alone = λ g i j s t. shows .alone g i j (raised xs g i s) (raised xs g j t);
-      alike = λ bucket row b r empty. shows .alike bucket row b (omega arith) empty;
-      upright = λ g i s even. shows .upright g i (raised xs g i s) even;
+    pub low_shown : Shows e xs (narrower z) low
+    low_shown = record {
+      gives_back = λ bucket row b r filled.
+          let (g, s) = shows.gives_back bucket row b (omega arith) filled in
+          let same : row ≡ s.row = sym (mod-mul-add bucket z.most row (omega (arith, sound.within))) ∙ row_is xs g (bucket * z.most + row) s in
+          (g, lowered xs g (bucket * z.most + row) s (omega arith));
+      told = low_from;
+      seated = λ g t is. (seat_of e sound xs entries shows g, (sits_low g t is).1);
+      alone = λ g i j s t. shows.alone g i j (raised xs g i s) (raised xs g j t);
+      alike = λ bucket row b r empty. shows.alike bucket row b (omega arith) empty;
+      upright = λ g i s even. shows.upright g i (raised xs g i s) even;
     }
 
   -- the entry f of the seat i, in the last row of a bucket
-  module _ (xs : List (Seat X)) (entries : ℕ → Option X) (shows : Shows e xs z entries) (bucket f : ℕ) (b : bucket < z .buckets) (sits : Sits e xs z f (last-seat z bucket)) where
+  module _ (xs : List (Seat X)) (entries : ℕ → Option X) (shows : Shows e xs z entries) (bucket f : ℕ) (b : bucket < z.buckets) (sits : Sits e xs z f (last_seat z bucket)) where
     abbrev i : ℕ
-    i = last-seat z bucket
+    i = last_seat z bucket
 
     abbrev below : ℕ → Option X
     below = low xs entries shows
 
     -- a fingerprint in the rows below sits in no last row
-    not-last : (g j : ℕ) (s : Sits e xs z g j) → j % z .most ≡ z .rows - 1 → (t : X) → below g ≡ Some t → ⊥
-    not-last g j s last t is =
-        let u = sits-low xs entries shows g t is .1 in
-        let k = seat-of e sound xs entries shows g in
-        let same : k ≡ j = shows .alone g k j (raised xs g k u) s in
-        omega (arith, ap (λ n. n % z .most) same, row-is xs g k (raised xs g k u), u .in-rows)
+    not_last : (g j : ℕ) (s : Sits e xs z g j) → j % z.most ≡ z.rows - 1 → (t : X) → below g ≡ Some t → ⊥
+    not_last g j s last t is =
+        let u = (sits_low xs entries shows g t is).1 in
+        let k = seat_of e sound xs entries shows g in
+        let same : k ≡ j = shows.alone g k j (raised xs g k u) s in
+        omega (arith, ap (λ n. n % z.most) same, row_is xs g k (raised xs g k u), u.in_rows)
 
-    pub new-below : below f ≡ None
-    new-below = none-since (below f) (λ t is. not-last f i sits (last-row bucket) t is)
+    pub new_below : below f ≡ None
+    new_below = none_since (below f) (λ t is. not_last f i sits (last_row bucket) t is)
 
     -- what is below, and f, is held
-    pub held-more : (g : ℕ) → also f (held below) g ≡ true → held entries g ≡ true
-    held-more g is =
-        ⊎-elim
-        (λ (same : eqb g f ≡ true). ap isSome (ap entries (eqb-true g f same) ∙ shows .told f i sits))
-        (λ (apart : eqb g f ≡ false). some-below (is-low xs entries shows g) (entries g) (ap (λ x. x || held below g) (sym apart) ∙ is))
-        (cases-bool (eqb g f))
+    pub held_more : (g : ℕ) → also f (held below) g ≡ true → held entries g ≡ true
+    held_more g is =
+        ⊎_elim
+        (λ (same : eqb g f ≡ true). ap is_some (ap entries (eqb-true g f same) ∙ shows.told f i sits))
+        (λ (apart : eqb g f ≡ false). some_below (is_low xs entries shows g) (entries g) (ap (λ x. x || held below g) (sym apart) ∙ is))
+        (cases_Bool (eqb g f))
       where
-        some-below : (x : Bool) (o : Option X) → isSome (cond x o None) ≡ true → isSome o ≡ true
-        some-below true o h = h
-        some-below false o h = absurd (grind arith)
+        some_below : (x : Bool) (o : Option X) → is_some (cond x o None) ≡ true → is_some o ≡ true
+        some_below true o h = h
+        some_below false o h = absurd (grind arith)
 
-    pub crowded : Unseatable e xs (narrower z) f → Seating (z .buckets) (z .rows - 1) (z .range) (held entries) → ⊥
+    pub crowded : Unseatable e xs (narrower z) f → Seating z.buckets (z.rows - 1) z.range (held entries) → ⊥
     crowded none seating =
-        none (sits .below) below (low-shown xs entries shows) new-below
-        (seating-fewer (z .buckets) (z .rows - 1) (z .range) (held entries) (also f (held below)) (λ g _ is. held-more g is) seating)
+        none sits.below below (low_shown xs entries shows) new_below
+        (seating_fewer z.buckets (z.rows - 1) z.range (held entries) (also f (held below)) (λ g _ is. held_more g is) seating)
 
     -- mid has the entry below, and its old seat still; ys has that seat empty
-    module _ (mid : List (Seat X)) (tally : X) (got : tally ≡ at e xs i .tally) (inside : i < length mid) (accepted : Accepted e xs mid (narrower z) f tally) where
+    module _ (mid : List (Seat X)) (tally : X) (got : tally ≡ (at e xs i).tally) (inside : i < length mid) (accepted : Accepted e xs mid (narrower z) f tally) where
       abbrev ys : List (Seat X)
       ys = set mid i (vacant e)
 
-      mid-shows : Shows e mid (narrower z) (changed below f (Some tally))
-      mid-shows = accepted .shows below (low-shown xs entries shows) new-below
+      mid_shows : Shows e mid (narrower z) (changed below f (Some tally))
+      mid_shows = accepted.shows below (low_shown xs entries shows) new_below
 
       -- a seat of the rows below is as in mid
-      low-same : (c row : ℕ) → row < z .rows - 1 → at e ys (c * z .most + row) ≡ at e mid (c * z .most + row)
-      low-same c row r =
-          getD-set-other mid i (c * z .most + row) (vacant e) (vacant e)
-          (λ is. omega (arith, mod-mul-add c (z .most) row (omega (arith, sound .within)), last-row bucket, ap (λ n. n % z .most) is))
+      low_same : (c row : ℕ) → row < z.rows - 1 → at e ys (c * z.most + row) ≡ at e mid (c * z.most + row)
+      low_same c row r =
+          get_or-set_other mid i (c * z.most + row) (vacant e) (vacant e)
+          (λ is. omega (arith, mod-mul-add c z.most row (omega (arith, sound.within)), last_row bucket, ap (λ n. n % z.most) is))
 
       -- a last seat other than i is as in xs
-      last-same : (c : ℕ) → c < z .buckets → (last-seat z c ≡ i → ⊥) → at e ys (last-seat z c) ≡ at e xs (last-seat z c)
-      last-same c low apart =
-          getD-set-other mid i (last-seat z c) (vacant e) (vacant e) apart ∙ accepted .beyond c (z .rows - 1) low (omega arith) (omega (arith, sound .within))
+      last_same : (c : ℕ) → c < z.buckets → (last_seat z c ≡ i → ⊥) → at e ys (last_seat z c) ≡ at e xs (last_seat z c)
+      last_same c low apart =
+          get_or-set_other mid i (last_seat z c) (vacant e) (vacant e) apart ∙ accepted.beyond c (z.rows - 1) low (omega arith) (omega (arith, sound.within))
 
       emptied : at e ys i ≡ vacant e
-      emptied = getD-set-same mid i (vacant e) (vacant e) inside
+      emptied = get_or-set_same mid i (vacant e) (vacant e) inside
 
       -- what sits in ys sits below in mid, or in a last seat in xs
-      from : (g j : ℕ) → Sits e ys z g j → Sits e mid (narrower z) g j ⊎ (Sits e xs z g j × (j % z .most ≡ z .rows - 1) × (j ≡ i → ⊥) × (at e ys j ≡ at e xs j))
+      from : (g j : ℕ) → Sits e ys z g j → Sits e mid (narrower z) g j ⊎ (Sits e xs z g j × (j % z.most ≡ z.rows - 1) × (j ≡ i → ⊥) × (at e ys j ≡ at e xs j))
       from g j s =
-          ⊎-elim
-          (λ (r : s .row < z .rows - 1).
-          inl (sits-kept e sound′ ys mid g j (ap (at e ys) (s .lies) ∙ low-same (s .bucket) (s .row) r ∙ ap (at e mid) (sym (s .lies))) (lowered ys g j s r)))
-          (λ (past : z .rows - 1 ≤ s .row).
-          let last : s .row ≡ z .rows - 1 = omega (arith, s .in-rows) in
-          let lies : j ≡ last-seat z (s .bucket) = s .lies ∙ ap (λ n. s .bucket * z .most + n) last in
-          let apart : j ≡ i → ⊥ = λ is. s .filled (ap (λ (x : Seat X). x .tally) (ap (at e ys) is ∙ emptied)) in
-          let same : at e ys j ≡ at e xs j = ap (at e ys) lies ∙ last-same (s .bucket) (s .in-table) (λ is. apart (lies ∙ is)) ∙ ap (at e xs) (sym lies) in
-          inr (sits-kept e sound ys xs g j same s, row-is ys g j s ∙ last, apart, same))
-          (cases-lt (s .row) (z .rows - 1))
+          ⊎_elim
+          (λ (r : s.row < z.rows - 1).
+          inl (sits_kept e sound' ys mid g j (ap (at e ys) s.lies ∙ low_same s.bucket s.row r ∙ ap (at e mid) (sym s.lies)) (lowered ys g j s r)))
+          (λ (past : z.rows - 1 ≤ s.row).
+          let last : s.row ≡ z.rows - 1 = omega (arith, s.in_rows) in
+          let lies : j ≡ last_seat z s.bucket = s.lies ∙ ap (λ n. s.bucket * z.most + n) last in
+          let apart : j ≡ i → ⊥ = λ is. s.filled (ap (λ (x : Seat X). x.tally) (ap (at e ys) is ∙ emptied)) in
+          let same : at e ys j ≡ at e xs j = ap (at e ys) lies ∙ last_same s.bucket s.in_table (λ is. apart (lies ∙ is)) ∙ ap (at e xs) (sym lies) in
+          inr (sits_kept e sound ys xs g j same s, row_is ys g j s ∙ last, apart, same))
+          (cases_lt s.row (z.rows - 1))
         where
-          sound′ : Sound (narrower z)
-          sound′ = record { some = sound .some; few = sound .few; used = omega arith; within = omega (arith, sound .within); narrow = sound .narrow; small = sound .small }
+          sound' : Sound (narrower z)
+          sound' = record { some = sound.some; few = sound.few; used = omega arith; within = omega (arith, sound.within); narrow = sound.narrow; small = sound.small }
 
-      back-low : (g j : ℕ) → Sits e mid (narrower z) g j → Sits e ys z g j
-      back-low g j s = sits-kept e sound mid ys g j (ap (at e mid) (s .lies) ∙ sym (low-same (s .bucket) (s .row) (s .in-rows)) ∙ ap (at e ys) (sym (s .lies))) (raised mid g j s)
+      back_low : (g j : ℕ) → Sits e mid (narrower z) g j → Sits e ys z g j
+      back_low g j s = sits_kept e sound mid ys g j (ap (at e mid) s.lies ∙ sym (low_same s.bucket s.row s.in_rows) ∙ ap (at e ys) (sym s.lies)) (raised mid g j s)
 
-      back-last : (g j c : ℕ) → c < z .buckets → j ≡ last-seat z c → (j ≡ i → ⊥) → Sits e xs z g j → Sits e ys z g j
-      back-last g j c low lies apart s = sits-kept e sound xs ys g j (ap (at e xs) lies ∙ sym (last-same c low (λ is. apart (lies ∙ is))) ∙ ap (at e ys) (sym lies)) s
+      back_last : (g j c : ℕ) → c < z.buckets → j ≡ last_seat z c → (j ≡ i → ⊥) → Sits e xs z g j → Sits e ys z g j
+      back_last g j c low lies apart s = sits_kept e sound xs ys g j (ap (at e xs) lies ∙ sym (last_same c low (λ is. apart (lies ∙ is))) ∙ ap (at e ys) (sym lies)) s
 
       -- what mid has below is held
-      mid-held : (g : ℕ) (t : X) → changed below f (Some tally) g ≡ Some t → entries g ≡ Some t
-      mid-held g t is =
-          ⊎-elim
+      mid_held : (g : ℕ) (t : X) → changed below f (Some tally) g ≡ Some t → entries g ≡ Some t
+      mid_held g t is =
+          ⊎_elim
           (λ (same : eqb g f ≡ true).
-          ap entries (eqb-true g f same) ∙ shows .told f i sits ∙ ap Some (sym got) ∙ sym (cond-true (eqb g f) (Some tally) (below g) same) ∙ is)
-          (λ (apart : eqb g f ≡ false). sits-low xs entries shows g t (sym (cond-false (eqb g f) (Some tally) (below g) apart) ∙ is) .0)
-          (cases-bool (eqb g f))
+          ap entries (eqb-true g f same) ∙ shows.told f i sits ∙ ap Some (sym got) ∙ sym (cond-true (eqb g f) (Some tally) (below g) same) ∙ is)
+          (λ (apart : eqb g f ≡ false). (sits_low xs entries shows g t (sym (cond-false (eqb g f) (Some tally) (below g) apart) ∙ is)).0)
+          (cases_Bool (eqb g f))
 
       -- none sits both below in mid and in a last seat of xs other than i
-      never-both : (g j k : ℕ) → Sits e mid (narrower z) g j → Sits e xs z g k → k % z .most ≡ z .rows - 1 → (k ≡ i → ⊥) → ⊥
-      never-both g j k s t last apart =
-          let entry = mid-shows .told g j s in
-          ⊎-elim
-          (λ (same : eqb g f ≡ true). apart (shows .alone f k i (subst (λ n. Sits e xs z n k) (eqb-true g f same) t) sits))
-          (λ (other : eqb g f ≡ false). not-last g k t last (at e mid j .tally) (sym (cond-false (eqb g f) (Some tally) (below g) other) ∙ entry))
-          (cases-bool (eqb g f))
+      never_both : (g j k : ℕ) → Sits e mid (narrower z) g j → Sits e xs z g k → k % z.most ≡ z.rows - 1 → (k ≡ i → ⊥) → ⊥
+      never_both g j k s t last apart =
+          let entry = mid_shows.told g j s in
+          ⊎_elim
+          (λ (same : eqb g f ≡ true). apart (shows.alone f k i (subst (λ n. Sits e xs z n k) (eqb-true g f same) t) sits))
+          (λ (other : eqb g f ≡ false). not_last g k t last (at e mid j).tally (sym (cond-false (eqb g f) (Some tally) (below g) other) ∙ entry))
+          (cases_Bool (eqb g f))
 
-      told′ : (g j : ℕ) → Sits e ys z g j → entries g ≡ Some (at e ys j .tally)
-      told′ g j s =
-          ⊎-elim
+      told' : (g j : ℕ) → Sits e ys z g j → entries g ≡ Some (at e ys j).tally
+      told' g j s =
+          ⊎_elim
           (λ (t : Sits e mid (narrower z) g j).
-          mid-held g (at e mid j .tally) (mid-shows .told g j t)
-          ∙ ap (λ (x : Seat X). Some (x .tally)) (ap (at e mid) (t .lies) ∙ sym (low-same (t .bucket) (t .row) (t .in-rows)) ∙ ap (at e ys) (sym (t .lies))))
-          (λ h. shows .told g j (h .0) ∙ ap (λ (x : Seat X). Some (x .tally)) (sym (h .3)))
+          mid_held g (at e mid j).tally (mid_shows.told g j t)
+          ∙ ap (λ (x : Seat X). Some x.tally) (ap (at e mid) t.lies ∙ sym (low_same t.bucket t.row t.in_rows) ∙ ap (at e ys) (sym t.lies)))
+          (λ h. shows.told g j h.0 ∙ ap (λ (x : Seat X). Some x.tally) (sym h.3))
           (from g j s)
 
-      seated′ : (g : ℕ) (t : X) → entries g ≡ Some t → (j : ℕ) × Sits e ys z g j
-      seated′ g t is =
-          ⊎-elim
+      seated' : (g : ℕ) (t : X) → entries g ≡ Some t → (j : ℕ) × Sits e ys z g j
+      seated' g t is =
+          ⊎_elim
           (λ (same : eqb g f ≡ true).
-          let (j, s) = mid-shows .seated g tally (cond-true (eqb g f) (Some tally) (below g) same) in
-          (j, back-low g j s))
+          let (j, s) = mid_shows.seated g tally (cond-true (eqb g f) (Some tally) (below g) same) in
+          (j, back_low g j s))
           (λ (other : eqb g f ≡ false).
-          ⊎-elim
-          (λ (yes : is-low xs entries shows g ≡ true).
-          let (j, s) = mid-shows .seated g t (cond-false (eqb g f) (Some tally) (below g) other ∙ cond-true (is-low xs entries shows g) (entries g) None yes ∙ is) in
-          (j, back-low g j s))
-          (λ (no : is-low xs entries shows g ≡ false).
-          let j = seat-of e sound xs entries shows g in
-          let s = sits-there e sound xs entries shows g (ap isSome is) in
-          let last : s .row ≡ z .rows - 1 = omega (arith, row-is xs g j s, s .in-rows, ltb-false (j % z .most) (z .rows - 1) no) in
-          let apart : j ≡ i → ⊥ = λ at-i. eqb-false g f other (sits-one e sound xs g f i (subst (λ n. Sits e xs z g n) at-i s) sits) in
-          (j, back-last g j (s .bucket) (s .in-table) (s .lies ∙ ap (λ n. s .bucket * z .most + n) last) apart s))
-          (cases-bool (is-low xs entries shows g)))
-          (cases-bool (eqb g f))
+          ⊎_elim
+          (λ (yes : is_low xs entries shows g ≡ true).
+          let (j, s) = mid_shows.seated g t (cond-false (eqb g f) (Some tally) (below g) other ∙ cond-true (is_low xs entries shows g) (entries g) None yes ∙ is) in
+          (j, back_low g j s))
+          (λ (no : is_low xs entries shows g ≡ false).
+          let j = seat_of e sound xs entries shows g in
+          let s = sits_there e sound xs entries shows g (ap is_some is) in
+          let last : s.row ≡ z.rows - 1 = omega (arith, row_is xs g j s, s.in_rows, ltb-false (j % z.most) (z.rows - 1) no) in
+          let apart : j ≡ i → ⊥ = λ at_i. eqb-false g f other (sits_one e sound xs g f i (subst (λ n. Sits e xs z g n) at_i s) sits) in
+          (j, back_last g j s.bucket s.in_table (s.lies ∙ ap (λ n. s.bucket * z.most + n) last) apart s))
+          (cases_Bool (is_low xs entries shows g)))
+          (cases_Bool (eqb g f))
 
-      alone′ : (g j k : ℕ) → Sits e ys z g j → Sits e ys z g k → j ≡ k
-      alone′ g j k s t =
-          ⊎-elim
+      alone' : (g j k : ℕ) → Sits e ys z g j → Sits e ys z g k → j ≡ k
+      alone' g j k s t =
+          ⊎_elim
           (λ (x : Sits e mid (narrower z) g j).
-          ⊎-elim (λ y. mid-shows .alone g j k x y) (λ h. absurd (never-both g j k x (h .0) (h .1) (h .2))) (from g k t))
-          (λ h. ⊎-elim (λ y. absurd (never-both g k j y (h .0) (h .1) (h .2))) (λ l. shows .alone g j k (h .0) (l .0)) (from g k t))
+          ⊎_elim (λ y. mid_shows.alone g j k x y) (λ h. absurd (never_both g j k x h.0 h.1 h.2)) (from g k t))
+          (λ h. ⊎_elim (λ y. absurd (never_both g k j y h.0 h.1 h.2)) (λ l. shows.alone g j k h.0 l.0) (from g k t))
           (from g j s)
 
       -- a seat of the rows in use lies below, or is a last seat
-      rows : (c row : ℕ) → row < z .rows → (row < z .rows - 1) ⊎ (c * z .most + row ≡ last-seat z c)
-      rows c row r = ⊎-elim inl (λ past. let is : row ≡ z .rows - 1 = omega arith in inr (ap (λ n. c * z .most + n) is)) (cases-lt row (z .rows - 1))
+      rows : (c row : ℕ) → row < z.rows → (row < z.rows - 1) ⊎ (c * z.most + row ≡ last_seat z c)
+      rows c row r = ⊎_elim inl (λ past. let is : row ≡ z.rows - 1 = omega arith in inr (ap (λ n. c * z.most + n) is)) (cases_lt row (z.rows - 1))
 
-      pub shows-lowered : Shows e ys z entries
-      shows-lowered = record {
-        gives-back = λ c row low r filled.
-            ⊎-elim
+      pub shows_lowered : Shows e ys z entries
+      shows_lowered = record {
+        gives_back = λ c row low r filled.
+            ⊎_elim
             (λ lt.
-            let (g, s) = mid-shows .gives-back c row low lt (subst (λ (x : Seat X). x .tally ≡ e → ⊥) (low-same c row lt) filled) in
-            (g, back-low g (c * z .most + row) s))
+            let (g, s) = mid_shows.gives_back c row low lt (subst (λ (x : Seat X). x.tally ≡ e → ⊥) (low_same c row lt) filled) in
+            (g, back_low g (c * z.most + row) s))
             (λ last.
-            let j = c * z .most + row in
-            let apart : j ≡ i → ⊥ = λ is. filled (ap (λ (x : Seat X). x .tally) (ap (at e ys) is ∙ emptied)) in
-            let same : at e ys j ≡ at e xs j = ap (at e ys) last ∙ last-same c low (λ is. apart (last ∙ is)) ∙ ap (at e xs) (sym last) in
-            let (g, s) = shows .gives-back c row low r (subst (λ (x : Seat X). x .tally ≡ e → ⊥) same filled) in
-            (g, back-last g j c low last apart s))
+            let j = c * z.most + row in
+            let apart : j ≡ i → ⊥ = λ is. filled (ap (λ (x : Seat X). x.tally) (ap (at e ys) is ∙ emptied)) in
+            let same : at e ys j ≡ at e xs j = ap (at e ys) last ∙ last_same c low (λ is. apart (last ∙ is)) ∙ ap (at e xs) (sym last) in
+            let (g, s) = shows.gives_back c row low r (subst (λ (x : Seat X). x.tally ≡ e → ⊥) same filled) in
+            (g, back_last g j c low last apart s))
             (rows c row r);
-        told = told′;
-        seated = seated′;
-        alone = alone′;
+        told = told';
+        seated = seated';
+        alone = alone';
         alike = λ c row low r empty.
-            ⊎-elim
-            (λ lt. low-same c row lt ∙ mid-shows .alike c row low lt (ap (λ (x : Seat X). x .tally) (sym (low-same c row lt)) ∙ empty))
+            ⊎_elim
+            (λ lt. low_same c row lt ∙ mid_shows.alike c row low lt (ap (λ (x : Seat X). x.tally) (sym (low_same c row lt)) ∙ empty))
             (λ last.
-            let j = c * z .most + row in
-            ⊎-elim
+            let j = c * z.most + row in
+            ⊎_elim
             (λ (is : j ≡ i). ap (at e ys) is ∙ emptied)
             (λ (apart : j ≡ i → ⊥).
-            let same : at e ys j ≡ at e xs j = ap (at e ys) last ∙ last-same c low (λ is. apart (last ∙ is)) ∙ ap (at e xs) (sym last) in
-            same ∙ shows .alike c row low r (ap (λ (x : Seat X). x .tally) (sym same) ∙ empty))
-            (cases-eq j i))
+            let same : at e ys j ≡ at e xs j = ap (at e ys) last ∙ last_same c low (λ is. apart (last ∙ is)) ∙ ap (at e xs) (sym last) in
+            same ∙ shows.alike c row low r (ap (λ (x : Seat X). x.tally) (sym same) ∙ empty))
+            (cases_eq j i))
             (rows c row r);
         upright = λ g j s even.
-            ⊎-elim
+            ⊎_elim
             (λ (t : Sits e mid (narrower z) g j).
-            ap (λ (x : Seat X). x .flag) (ap (at e ys) (t .lies) ∙ low-same (t .bucket) (t .row) (t .in-rows) ∙ ap (at e mid) (sym (t .lies))) ∙ mid-shows .upright g j t even)
-            (λ h. ap (λ (x : Seat X). x .flag) (h .3) ∙ shows .upright g j (h .0) even)
+            ap (λ (x : Seat X). x.flag) (ap (at e ys) t.lies ∙ low_same t.bucket t.row t.in_rows ∙ ap (at e mid) (sym t.lies)) ∙ mid_shows.upright g j t even)
+            (λ h. ap (λ (x : Seat X). x.flag) h.3 ∙ shows.upright g j h.0 even)
             (from g j s);
       }
 
   -- a filled last seat is that of the fingerprint that it gives back
-  pub sits-last : (xs : List (Seat X)) (entries : ℕ → Option X) → Shows e xs z entries → (bucket f : ℕ) → bucket < z .buckets → Filled e xs (last-seat z bucket) →
-      f ≡ given-back (z .buckets) (place-at e sound xs bucket (z .rows - 1)) → Sits e xs z f (last-seat z bucket)
-  sits-last xs entries shows bucket f b filled is = subst (λ n. Sits e xs z n (last-seat z bucket)) (sym is) (sits-back e sound xs entries shows bucket (z .rows - 1) b (omega arith) filled)
+  pub sits_last : (xs : List (Seat X)) (entries : ℕ → Option X) → Shows e xs z entries → (bucket f : ℕ) → bucket < z.buckets → Filled e xs (last_seat z bucket) →
+      f ≡ given_back z.buckets (place_at e sound xs bucket (z.rows - 1)) → Sits e xs z f (last_seat z bucket)
+  sits_last xs entries shows bucket f b filled is = subst (λ n. Sits e xs z n (last_seat z bucket)) (sym is) (sits_back e sound xs entries shows bucket (z.rows - 1) b (omega arith) filled)
 
-  pub inside : (bucket : ℕ) → bucket < z .buckets → last-seat z bucket < z .buckets * z .most
-  inside bucket b = omega (arith, mul-add-lt bucket (z .most) (z .rows - 1) (z .buckets) b (omega (arith, sound .within)))
+  pub inside : (bucket : ℕ) → bucket < z.buckets → last_seat z bucket < z.buckets * z.most
+  inside bucket b = omega (arith, mul-add-lt bucket z.most (z.rows - 1) z.buckets b (omega (arith, sound.within)))
 
   -- a last seat, as it was read
-  module _ (k : Kind X) (is : k .empty ≡ e) (lawful : Lawful k) (xs : List (Seat X)) (bucket : ℕ) (b : bucket < z .buckets) (s : Seat X) (read : s ≡ at e xs (last-seat z bucket)) where
-    pub nothing-there : s .tally ≡ e → Lowered e xs xs z bucket true
-    nothing-there empty = (record { shows = λ _ shows. shows; beyond = λ _ _ _ _ _. refl }, ap (λ (x : Seat X). x .tally) (sym read) ∙ empty, λ _ _ _. refl)
+  module _ (k : Kind X) (is : k.empty ≡ e) (lawful : Lawful k) (xs : List (Seat X)) (bucket : ℕ) (b : bucket < z.buckets) (s : Seat X) (read : s ≡ at e xs (last_seat z bucket)) where
+    pub nothing_there : s.tally ≡ e → Lowered e xs xs z bucket true
+    nothing_there empty = (record { shows = λ _ shows. shows; beyond = λ _ _ _ _ _. refl }, ap (λ (x : Seat X). x.tally) (sym read) ∙ empty, λ _ _ _. refl)
 
-    module _ (some : s .tally ≡ e → ⊥) where
-      filled : Filled e xs (last-seat z bucket)
-      filled none = some (ap (λ (x : Seat X). x .tally) read ∙ none)
+    module _ (some : s.tally ≡ e → ⊥) where
+      filled : Filled e xs (last_seat z bucket)
+      filled none = some (ap (λ (x : Seat X). x.tally) read ∙ none)
 
       abbrev gives : ℕ
-      gives = given-back (z .buckets) (record { bucket = bucket; carry = s .carry; flag = s .flag })
+      gives = given_back z.buckets (record { bucket = bucket; carry = s.carry; flag = s.flag })
 
-      sits-at : (entries : ℕ → Option X) → Shows e xs z entries → (f : ℕ) → f ≡ gives → Sits e xs z f (last-seat z bucket)
-      sits-at entries shows f back =
-          sits-last xs entries shows bucket f b filled
-          (back ∙ ap (λ (x : Seat X). given-back (z .buckets) (record { bucket = bucket; carry = x .carry; flag = x .flag })) read)
+      sits_at : (entries : ℕ → Option X) → Shows e xs z entries → (f : ℕ) → f ≡ gives → Sits e xs z f (last_seat z bucket)
+      sits_at entries shows f back =
+          sits_last xs entries shows bucket f b filled
+          (back ∙ ap (λ (x : Seat X). given_back z.buckets (record { bucket = bucket; carry = x.carry; flag = x.flag })) read)
 
-      pub no-fingerprint : z .range ≤ gives → Lowered e xs xs z bucket false
-      no-fingerprint large = (refl, λ entries shows _. let below = sits-at entries shows gives refl .below in omega arith)
+      pub no_fingerprint : z.range ≤ gives → Lowered e xs xs z bucket false
+      no_fingerprint large = (refl, λ entries shows _. let below = (sits_at entries shows gives refl).below in omega arith)
 
       module _ (f : ℕ) (back : f ≡ gives) (mid : List (Seat X)) where
-        pub no-seat : (words : ℕ) (why : Refusal) → length xs ≡ z .buckets * z .most → 2 * z .buckets ≤ words → Refused e xs mid (narrower z) f (place-refusal k xs (narrower z) (s .tally) words) why → Lowered e xs mid z bucket false
-        no-seat words why long enough refused = (
-          refused .same,
+        pub no_seat : (words : ℕ) (why : Refusal) → length xs ≡ z.buckets * z.most → 2 * z.buckets ≤ words → Refused e xs mid (narrower z) f (place_refusal k xs (narrower z) s.tally words) why → Lowered e xs mid z bucket false
+        no_seat words why long enough refused = (
+          refused.same,
           λ entries shows.
-              crowded xs entries shows bucket f b (sits-at entries shows f back)
-              (⊎-elim (λ barred-by. let none = unbarred words long enough in let n : _≡_ {A = ℕ} 0 1 = cc in absurd (omega arith)) (λ h. h .2) (refused .reason)),
+              crowded xs entries shows bucket f b (sits_at entries shows f back)
+              (⊎_elim (λ barred-by. let none = unbarred words long enough in let n : ◌≡◌ {A = ℕ} 0 1 = cc in absurd (omega arith)) (λ h. h.2) refused.reason),
         )
           where
-            full : (x : Bool) → k .is-empty (s .tally) ≡ x → x ≡ false
-            full true told = absurd (some (lawful .empty-told (s .tally) .0 told ∙ is))
+            full : (x : Bool) → k.is_empty s.tally ≡ x → x ≡ false
+            full true told = absurd (some ((lawful.empty_told s.tally).0 told ∙ is))
             full false none = refl
 
-            unbarred : (words : ℕ) → length xs ≡ z .buckets * z .most → 2 * z .buckets ≤ words → place-refusal k xs (narrower z) (s .tally) words ≡ None
+            unbarred : (words : ℕ) → length xs ≡ z.buckets * z.most → 2 * z.buckets ≤ words → place_refusal k xs (narrower z) s.tally words ≡ None
             unbarred words long enough =
-                ap (λ x. cond (not x) (Some Seats) (cond (ltb words (2 * z .buckets)) (Some Words) (cond (k .is-empty (s .tally)) (Some NoAmount) None))) (eq-eqb (length xs) (z .buckets * z .most) long)
-                ∙ ap (λ x. cond x (Some Words) (cond (k .is-empty (s .tally)) (Some NoAmount) None)) (le-ltb words (2 * z .buckets) enough)
-                ∙ ap (λ x. cond x (Some NoAmount) None) (full (k .is-empty (s .tally)) refl)
+                ap (λ x. cond (not x) (Some Seats) (cond (ltb words (2 * z.buckets)) (Some Words) (cond (k.is_empty s.tally) (Some NoAmount) None))) (eq-eqb (length xs) (z.buckets * z.most) long)
+                ∙ ap (λ x. cond x (Some Words) (cond (k.is_empty s.tally) (Some NoAmount) None)) (le-ltb words (2 * z.buckets) enough)
+                ∙ ap (λ x. cond x (Some NoAmount) None) (full (k.is_empty s.tally) refl)
 
-        pub seat-below : (ys : List (Seat X)) → last-seat z bucket < length mid → Accepted e xs mid (narrower z) f (s .tally) → ys ≡ set mid (last-seat z bucket) (vacant e) → Lowered e xs ys z bucket true
-        seat-below ys long accepted wrote =
-            let i = last-seat z bucket in
+        pub seat_below : (ys : List (Seat X)) → last_seat z bucket < length mid → Accepted e xs mid (narrower z) f s.tally → ys ≡ set mid (last_seat z bucket) (vacant e) → Lowered e xs ys z bucket true
+        seat_below ys long accepted wrote =
+            let i = last_seat z bucket in
             let shifted : Shifted e xs (set mid i (vacant e)) z = record {
               shows = λ entries shows.
-                  shows-lowered xs entries shows bucket f b (sits-at entries shows f back) mid (s .tally) (ap (λ (x : Seat X). x .tally) read) long accepted;
+                  shows_lowered xs entries shows bucket f b (sits_at entries shows f back) mid s.tally (ap (λ (x : Seat X). x.tally) read) long accepted;
               beyond = λ c row low past high.
-                  getD-set-other mid i (c * z .most + row) (vacant e) (vacant e) (λ same. omega (arith, mod-mul-add c (z .most) row high, last-row bucket, ap (λ n. n % z .most) same))
-                  ∙ accepted .beyond c row low (omega arith) high;
+                  get_or-set_other mid i (c * z.most + row) (vacant e) (vacant e) (λ same. omega (arith, mod-mul-add c z.most row high, last_row bucket, ap (λ n. n % z.most) same))
+                  ∙ accepted.beyond c row low (omega arith) high;
             } in
             subst (λ ys. Lowered e xs ys z bucket true) (sym wrote) (
               shifted,
-              ap (λ (x : Seat X). x .tally) (getD-set-same mid i (vacant e) (vacant e) long),
+              ap (λ (x : Seat X). x.tally) (get_or-set_same mid i (vacant e) (vacant e) long),
               λ other low apart.
-                  getD-set-other mid i (last-seat z other) (vacant e) (vacant e)
-                  (λ same. apart (same-bucket e sound other (z .rows - 1) bucket (z .rows - 1) (omega arith) (omega arith) same))
-                  ∙ accepted .beyond other (z .rows - 1) low (omega arith) (omega (arith, sound .within)),
+                  get_or-set_other mid i (last_seat z other) (vacant e) (vacant e)
+                  (λ same. apart (same_bucket e sound other (z.rows - 1) bucket (z.rows - 1) (omega arith) (omega arith) same))
+                  ∙ accepted.beyond other (z.rows - 1) low (omega arith) (omega (arith, sound.within)),
             )

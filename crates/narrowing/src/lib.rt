@@ -1,14 +1,13 @@
 // Narrowing: the last row in use of every bucket is cleared, its entries seated in the rows below.
-ghost use mathlib.Core.Path.{_≡_};
-ghost use Prim.Native.Nat.{_*_, _<_, _≤_};
-ghost use lib.ListN.{length};
-ghost use Rattle·std.specs.Options.{Cases};
-ghost use Rattle·std.specs.declared.option.Option.the-variants.{None};
-ghost use Rattle·seats.specs.Shapes.{size};
-ghost use Rattle·seats.specs.Places.{given-back};
-ghost use Rattle·seats.specs.Seats.{at};
-ghost use Rattle·moves.specs.Placed.{SparesPast};
-ghost use Rattle·narrowing·specs.Narrowed.{narrow-refusal, narrower, last-seat, LastRowEmpty, Lowered, Narrowed};
+#![tactic(auto)]
+
+ghost use Rattle.std.specs.Prelude.{◌≡◌, ◌*◌, ◌<◌, ◌≤◌, length, None, MatchOption, ◌≢◌};
+ghost use Rattle.seats.specs.Shapes.{size};
+ghost use Rattle.seats.specs.Places.{given_back};
+ghost use Rattle.seats.specs.Seats.{at};
+ghost use Rattle.moves.specs.Placed.{SparesPast};
+ghost use Rattle.narrowing.specs.Narrowed.{narrow_refusal, narrower, last_seat, LastRowEmpty, Lowered, Narrowed};
+
 use moves::place::place;
 use seats::place::Place;
 use seats::refusal::Refusal;
@@ -19,9 +18,9 @@ use tallies::tally::Tally;
 
 // The fingerprint that a place gives back, if it is one.
 fn fingerprint_at(shape: Shape, place: Place) -> Option<u32>
-    ensures { λ r. ⌜ Cases r
-        (size shape .range ≤ given-back (shape .buckets) place)
-        (λ f. (f ≡ given-back (shape .buckets) place) × (f < size shape .range)) ⌝ }
+    ensures { MatchOption result
+        ((size shape).range ≤ given_back shape.buckets place)
+        (λ f. (f ≡ given_back shape.buckets place) × (f < (size shape).range)) }
 {
     let number = shape.given_back(place);
     if number >= u64::from(shape.range().get()) {
@@ -39,11 +38,11 @@ fn lower_entry<T: Tally + Copy>(
     bucket: u32,
     words: &mut [u32],
 ) -> bool
-    requires sizes { ⌜ (length (now seats) ≡ shape .buckets * shape .most) × (2 * shape .buckets ≤ length (now words)) × (bucket < shape .buckets) ⌝ }
-    requires lower { ⌜ (1 < shape .rows) × (size lower ≡ narrower (size shape)) ⌝ }
-    ensures lowered { λ r. ⌜ Lowered (T·Tally .kind .empty) (now (seats .entry)) (now (seats .exit)) (size shape) bucket r ⌝ }
-    ensures idle { λ _. ⌜ (at (T·Tally .kind .empty) (now (seats .entry)) (last-seat (size shape) bucket) .tally ≡ T·Tally .kind .empty → (now (seats .exit) ≡ now (seats .entry)) × (now (words .exit) ≡ now (words .entry))) ⌝ }
-    ensures past { λ _. ⌜ SparesPast (2 * shape .buckets) (now (words .entry)) (now (words .exit)) ⌝ }
+    requires sizes { (length seats.old ≡ shape.buckets * shape.most) × (2 * shape.buckets ≤ length words.old) × (bucket < shape.buckets) }
+    requires lower { (1 < shape.rows) × (size lower ≡ narrower (size shape)) }
+    ensures lowered { Lowered T.Tally.kind.empty seats.old seats.new (size shape) bucket result }
+    ensures idle { (at T.Tally.kind.empty seats.old (last_seat (size shape) bucket)).tally ≡ T.Tally.kind.empty → (seats.new ≡ seats.old) × (words.new ≡ words.old) }
+    ensures past { SparesPast (2 * shape.buckets) words.old words.new }
 {
     let i = (bucket * shape.most + (shape.rows - 1)) as usize;
     let seat = seats[i];
@@ -73,10 +72,10 @@ pub fn clear_last_row<T: Tally + Copy>(
     shape: Shape,
     words: &mut [u32],
 ) -> Result<Shape, Refusal>
-    ensures narrowed { λ r. ⌜ Narrowed (T·Tally .kind .empty) (now (seats .entry)) (now (seats .exit)) (size shape) (length (now (words .entry))) r ⌝ }
-    ensures idle { λ _. ⌜ (LastRowEmpty (T·Tally .kind .empty) (now (seats .entry)) (size shape) → (now (seats .exit) ≡ now (seats .entry)) × (now (words .exit) ≡ now (words .entry))) ⌝ }
-    ensures past { λ _. ⌜ SparesPast (2 * shape .buckets) (now (words .entry)) (now (words .exit)) ⌝ }
-    ensures kept { λ _. ⌜ ((narrow-refusal (size shape) (length (now (seats .entry))) (length (now (words .entry))) ≡ None → ⊥) → now (words .exit) ≡ now (words .entry)) ⌝ }
+    ensures narrowed { Narrowed T.Tally.kind.empty seats.old seats.new (size shape) (length words.old) result }
+    ensures idle { LastRowEmpty T.Tally.kind.empty seats.old (size shape) → (seats.new ≡ seats.old) × (words.new ≡ words.old) }
+    ensures past { SparesPast (2 * shape.buckets) words.old words.new }
+    ensures kept { (narrow_refusal (size shape) (length seats.old) (length words.old) ≢ None) → words.new ≡ words.old }
 {
     if words.len() < 2 * shape.buckets as usize {
         return Err(Refusal::Words);

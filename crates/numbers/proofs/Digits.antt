@@ -1,31 +1,26 @@
 -- One digit written, and one more behind those before it. Assumes nothing.
-use mathlib.Core.Path.{_≡_, ap, sym, _∙_}
-use mathlib.Core.List.{List, [], _∷_}
-use Prim.Native.Nat.{ℕ, _+_, _/_, _%_, _^_, _<_, _≤_}
-use native.Mathlib.Omega.{arith}
-use lib.ListN.{length, set}
-use Rattle·std.specs.Written.{decimal}
-use Rattle·std.proofs.shelf.Lists.{length-push}
-use Rattle·std.proofs.shelf.Decimals.{decimal-digit, decimal-step}
-use Rattle·numbers·specs.Buffers.{put}
-use Rattle·numbers·proofs.Puts.{put-byte, put-put, length-put}
+use Rattle.std.proofs.Common.{◌≡◌, ℕ, ◌+◌, ◌/◌, ◌%◌, ◌^◌, ◌<◌, ◌≤◌, List, [], ◌∷◌, length, set, decimal, sym, ap, ◌∙◌, arith}
+use Rattle.std.proofs.lemmas.List.{length_push}
+use Rattle.std.proofs.lemmas.Fmt.{decimal_digit, decimal_step}
+use Rattle.numbers.specs.Buffers.{put}
+use Rattle.numbers.proofs.Puts.{put_byte, put_put, length_put}
 
-pub one-digit : (n : ℕ) → n < 10 → length (decimal n) ≡ 1
-one-digit n small = ap length (decimal-digit n small)
+pub one_digit : (n : ℕ) → n < 10 → length (decimal n) ≡ 1
+one_digit n small = ap length (decimal_digit n small)
 
-pub one-digit-put : (buffer : List ℕ) (offset n : ℕ) → n < 10 → offset < length buffer → set buffer offset (48 + n) ≡ put buffer offset (decimal n)
-one-digit-put buffer offset n small h = put-byte buffer offset (48 + n) h ∙ ap (put buffer offset) (sym (decimal-digit n small))
+pub one_digit_put : (buffer : List ℕ) (offset n : ℕ) → n < 10 → offset < length buffer → set buffer offset (48 + n) ≡ put buffer offset (decimal n)
+one_digit_put buffer offset n small h = put_byte buffer offset (48 + n) h ∙ ap (put buffer offset) (sym (decimal_digit n small))
 
-pub one-digit-more : (n : ℕ) → 10 ≤ n → n < 2 ^ 64 → length (decimal n) ≡ length (decimal (n / 10)) + 1
-one-digit-more n big fits = ap length (decimal-step n big fits) ∙ length-push (decimal (n / 10)) (48 + n % 10)
+pub one_digit_more : (n : ℕ) → 10 ≤ n → n < 2 ^ 64 → length (decimal n) ≡ length (decimal (n / 10)) + 1
+one_digit_more n big fits = ap length (decimal_step n big fits) ∙ length_push (decimal (n / 10)) (48 + n % 10)
 
 -- the last digit, behind the digits of n / 10
-pub last-digit-put : (before buffer : List ℕ) (offset next n : ℕ) → 10 ≤ n → n < 2 ^ 64 → offset + length (decimal n) ≤ length before →
+pub last_digit_put : (before buffer : List ℕ) (offset next n : ℕ) → 10 ≤ n → n < 2 ^ 64 → offset + length (decimal n) ≤ length before →
     next ≡ offset + length (decimal (n / 10)) → buffer ≡ put before offset (decimal (n / 10)) → set buffer next (48 + n % 10) ≡ put before offset (decimal n)
-last-digit-put before buffer offset next n big fits room is written =
-    let long = one-digit-more n big fits in
-    let same : length buffer ≡ length before = ap length written ∙ length-put before (decimal (n / 10)) offset (omega arith) in
-    put-byte buffer next (48 + n % 10) (omega arith)
+last_digit_put before buffer offset next n big fits room is written =
+    let long = one_digit_more n big fits in
+    let same : length buffer ≡ length before = ap length written ∙ length_put before (decimal (n / 10)) offset (omega arith) in
+    put_byte buffer next (48 + n % 10) (omega arith)
     ∙ ap (λ b. put b next ((48 + n % 10) ∷ [])) written
-    ∙ put-put before (decimal (n / 10)) ((48 + n % 10) ∷ []) offset next is (omega arith)
-    ∙ ap (put before offset) (sym (decimal-step n big fits))
+    ∙ put_put before (decimal (n / 10)) ((48 + n % 10) ∷ []) offset next is (omega arith)
+    ∙ ap (put before offset) (sym (decimal_step n big fits))

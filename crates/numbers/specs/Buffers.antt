@@ -1,7 +1,5 @@
 -- Bytes in a lent buffer. Assumes nothing.
-use mathlib.Core.List.{List, _++_}
-use Prim.Native.Nat.{ℕ, _+_}
-use lib.ListN.{length, take, drop}
+use Rattle.std.specs.Prelude.{ℕ, ◌+◌, List, ◌++◌, length, take, drop}
 
 -- the buffer with these bytes over what stood from an offset on, and the rest as it was
 unfoldable pub put : List ℕ → ℕ → List ℕ → List ℕ

@@ -1,5 +1,5 @@
-ghost use mathlib.Core.Path.{_≡_};
-ghost use Rattle·numbers·specs.Fnv.{fnv-1a};
+ghost use Rattle.std.specs.Prelude.{◌≡◌};
+ghost use Rattle.numbers.specs.Fnv.{fnv_1a};
 
 // The number of no bytes.
 const START: u64 = 14695981039346656037;
@@ -9,7 +9,7 @@ const PRIME: u64 = 1099511628211;
 
 // The 64-bit FNV-1a number of the bytes.
 pub fn fnv1a(bytes: &[u8]) -> u64
-    ensures { λ r. ⌜ r ≡ fnv-1a (now (bytes .entry)) ⌝ }
+    ensures { result ≡ fnv_1a bytes.now }
 {
     let mut hash = START;
     for byte in bytes {

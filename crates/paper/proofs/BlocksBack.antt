@@ -1,103 +1,94 @@
 -- A sound block, read and written again. Assumes nothing.
-use mathlib.Core.Path.{_≡_, refl, ap, sym, _∙_}
-use mathlib.Core.Bool.{Bool, true, false, cond}
-use mathlib.Core.List.{List, [], _∷_, _++_, append-assoc}
-use Prim.Native.Nat.{ℕ, suc, _+_, _-_, _*_, _≤_, _<_}
-use native.Mathlib.Omega.{arith}
-use lib.Dec.{eqb}
-use lib.ListN.{length, take, drop, getD, replicate, length-take, length-drop, length-map}
-use lib.Seq.{take-add}
-use Rattle·std.specs.Joined.{joined}
-use Rattle·std.specs.declared.option.Option.{Option}
-use Rattle·std.specs.declared.option.Option.the-variants.{Some, None}
-use Rattle·std.specs.declared.result.Result.the-variants.{Ok}
-use Rattle·std.proofs.shelf.Lists.{drop-drop, drop-more}
-use Rattle·std.proofs.shelf.Tests.{and-parts, eqb-true}
-use Rattle·blocks.specs.Blocks.{with-checksum}
-use Rattle·blocks.specs.Pieces.{pieces}
-use Rattle·numbers.proofs.Bytes.{Bytes, drop-bytes, part-back}
-use Rattle·blocks.proofs.Checksums.{checksum-written-back}
-use Rattle·blocks.proofs.Pieces.{joined-pieces, length-pieces, pieces-even, pieces-bytes}
-use Rattle·paper·specs.Headers.{header-bytes, header-of, same-header}
-use Rattle·paper·specs.Records.{record-bytes, record-of}
-use Rattle·paper·specs.Zeros.{first-nonzero}
-use Rattle·paper·specs.Checks.{stray}
-use Rattle·paper·specs.Reading.{block-records}
-use Rattle·paper·specs.Writing.{block-body, block-bytes}
-use Rattle·paper·specs.declared.header.Header.{Header}
-use Rattle·paper·proofs.RecordsBack.{records-back}
-use Rattle·paper·proofs.Sound.{SoundBlock}
+use Rattle.std.proofs.Common.{◌≡◌, ℕ, suc, ◌+◌, ◌-◌, ◌*◌, ◌<◌, ◌≤◌, Bool, true, false, cond, eqb, List, [], ◌∷◌, ◌++◌, length, get_or, take, drop, replicate, Some, None, Ok, Option, sym, refl, ap, ◌∙◌, append_assoc, arith, length-drop, length-take, take-add}
+use lib.ListN.{length-map}
+use Rattle.std.specs.List.{flat_map}
+use Rattle.std.proofs.lemmas.List.{drop-drop, drop_more}
+use Rattle.std.proofs.lemmas.Bool.{and_parts, eqb-true}
+use Rattle.blocks.specs.Blocks.{with_checksum}
+use Rattle.blocks.specs.Pieces.{pieces}
+use Rattle.numbers.proofs.Bytes.{Bytes, drop_bytes, part_back}
+use Rattle.blocks.proofs.Checksums.{checksum_written_back}
+use Rattle.blocks.proofs.Pieces.{joined_pieces, length_pieces, pieces_even, pieces_bytes}
+use Rattle.paper.specs.Headers.{header_bytes, header_of, same_header}
+use Rattle.paper.specs.Records.{record_bytes, record_of}
+use Rattle.paper.specs.Zeros.{first_nonzero}
+use Rattle.paper.specs.Checks.{stray}
+use Rattle.paper.specs.Reading.{block_records}
+use Rattle.paper.specs.Writing.{block_body, block_bytes}
+use Rattle.paper.specs.declared.header.Header.{Header}
+use Rattle.paper.proofs.RecordsBack.{records_back}
+use Rattle.paper.proofs.Sound.{SoundBlock}
 
-pub header-same : (g h : Header) → same-header g h ≡ true → g ≡ h
-header-same g h is =
-    let p = and-parts (eqb (g .buckets) (h .buckets)) _ is in
-    let q = and-parts (eqb (g .rows) (h .rows)) _ (p .1) in
-    let r = and-parts (eqb (g .most) (h .most)) _ (q .1) in
-    let s = and-parts (eqb (g .rule) (h .rule)) _ (r .1) in
+pub header_same : (g h : Header) → same_header g h ≡ true → g ≡ h
+header_same g h is =
+    let p = and_parts (eqb g.buckets h.buckets) _ is in
+    let q = and_parts (eqb g.rows h.rows) _ p.1 in
+    let r = and_parts (eqb g.most h.most) _ q.1 in
+    let s = and_parts (eqb g.rule h.rule) _ r.1 in
     λ i. record {
-      buckets = eqb-true _ _ (p .0) i;
-      rows = eqb-true _ _ (q .0) i;
-      most = eqb-true _ _ (r .0) i;
-      rule = eqb-true _ _ (s .0) i;
-      kind = eqb-true _ _ (s .1) i;
+      buckets = eqb-true _ _ p.0 i;
+      rows = eqb-true _ _ q.0 i;
+      most = eqb-true _ _ r.0 i;
+      rule = eqb-true _ _ s.0 i;
+      kind = eqb-true _ _ s.1 i;
     }
 
-front-back : (block : List ℕ) → 8 ≤ length block → Bytes block → header-bytes (header-of block) ++ (getD block 6 0 ∷ getD block 7 0 ∷ []) ≡ take 8 block
-front-back block long each =
-    let step : (k : ℕ) → k < 8 → drop k block ≡ getD block k 0 ∷ drop (k + 1) block = λ k small. drop-more block k 0 (omega arith) in
-    let rest : drop 2 block ≡ getD block 2 0 ∷ getD block 3 0 ∷ getD block 4 0 ∷ getD block 5 0 ∷ getD block 6 0 ∷ getD block 7 0 ∷ drop 8 block =
-    step 2 (omega arith) ∙ ap (λ l. getD block 2 0 ∷ l) (step 3 (omega arith)
-    ∙ ap (λ l. getD block 3 0 ∷ l) (step 4 (omega arith) ∙ ap (λ l. getD block 4 0 ∷ l) (step 5 (omega arith)
-    ∙ ap (λ l. getD block 5 0 ∷ l) (step 6 (omega arith) ∙ ap (λ l. getD block 6 0 ∷ l) (step 7 (omega arith)))))) in
-    ap (λ l. l ++ (getD block 2 0 ∷ getD block 3 0 ∷ getD block 4 0 ∷ getD block 5 0 ∷ getD block 6 0 ∷ getD block 7 0 ∷ [])) (part-back block 0 2 (omega arith) each)
+front_back : (block : List ℕ) → 8 ≤ length block → Bytes block → header_bytes (header_of block) ++ (get_or block 6 0 ∷ get_or block 7 0 ∷ []) ≡ take 8 block
+front_back block long each =
+    let step : (k : ℕ) → k < 8 → drop k block ≡ get_or block k 0 ∷ drop (k + 1) block = λ k small. drop_more block k 0 (omega arith) in
+    let rest : drop 2 block ≡ get_or block 2 0 ∷ get_or block 3 0 ∷ get_or block 4 0 ∷ get_or block 5 0 ∷ get_or block 6 0 ∷ get_or block 7 0 ∷ drop 8 block =
+    step 2 (omega arith) ∙ ap (λ l. get_or block 2 0 ∷ l) (step 3 (omega arith)
+    ∙ ap (λ l. get_or block 3 0 ∷ l) (step 4 (omega arith) ∙ ap (λ l. get_or block 4 0 ∷ l) (step 5 (omega arith)
+    ∙ ap (λ l. get_or block 5 0 ∷ l) (step 6 (omega arith) ∙ ap (λ l. get_or block 6 0 ∷ l) (step 7 (omega arith)))))) in
+    ap (λ l. l ++ (get_or block 2 0 ∷ get_or block 3 0 ∷ get_or block 4 0 ∷ get_or block 5 0 ∷ get_or block 6 0 ∷ get_or block 7 0 ∷ [])) (part_back block 0 2 (omega arith) each)
     ∙ ap (λ l. take 2 block ++ take 6 l) (sym rest)
     ∙ sym (take-add 2 6 block)
 
-none-tells : (b : Bool) (o : Option ℕ) (k : ℕ) → cond b o (Some k) ≡ None → (b ≡ true) × (o ≡ None)
-none-tells true o k is = (refl, is)
-none-tells false o k is = let z : _≡_ {A = ℕ} 0 1 = cc in absurd (omega arith)
+none_tells : (b : Bool) (o : Option ℕ) (k : ℕ) → cond b o (Some k) ≡ None → (b ≡ true) × (o ≡ None)
+none_tells true o k is = (refl, is)
+none_tells false o k is = let z : ◌≡◌ {A = ℕ} 0 1 = cc in absurd (omega arith)
 
-zeros-back : (bytes : List ℕ) (k : ℕ) → first-nonzero k bytes ≡ None → bytes ≡ replicate (length bytes) 0
-zeros-back [] k none = refl
-zeros-back (b ∷ bs) k none =
-    let p = none-tells (eqb b 0) (first-nonzero (suc k) bs) k none in
-    let rest = zeros-back bs (suc k) (p .1) in
-    λ i. eqb-true b 0 (p .0) i ∷ rest i
+zeros_back : (bytes : List ℕ) (k : ℕ) → first_nonzero k bytes ≡ None → bytes ≡ replicate (length bytes) 0
+zeros_back [] k none = refl
+zeros_back (b ∷ bs) k none =
+    let p = none_tells (eqb b 0) (first_nonzero (suc k) bs) k none in
+    let rest = zeros_back bs (suc k) p.1 in
+    λ i. eqb-true b 0 p.0 i ∷ rest i
 
-stray-none : (place from : ℕ) (o : Option ℕ) → stray place from o ≡ Ok tt → o ≡ None
-stray-none place from None is = refl
-stray-none place from (Some k) is = let z : _≡_ {A = ℕ} 0 1 = cc in absurd (omega arith)
+stray_none : (place from : ℕ) (o : Option ℕ) → stray place from o ≡ Ok tt → o ≡ None
+stray_none place from None is = refl
+stray_none place from (Some k) is = let z : ◌≡◌ {A = ℕ} 0 1 = cc in absurd (omega arith)
 
 -- a block's first eight bytes, its records and the zeros behind them, put together again
-whole-body : (block : List ℕ) (n : ℕ) → n ≤ 19 → take 8 block ++ (take (26 * n) (drop 8 block) ++ take (504 - (8 + 26 * n)) (drop (8 + 26 * n) block)) ≡ take 504 block
-whole-body block n few =
+whole_body : (block : List ℕ) (n : ℕ) → n ≤ 19 → take 8 block ++ (take (26 * n) (drop 8 block) ++ take (504 - (8 + 26 * n)) (drop (8 + 26 * n) block)) ≡ take 504 block
+whole_body block n few =
     let long : 26 * n + (504 - (8 + 26 * n)) ≡ 496 = omega arith in
     ap (λ l. take 8 block ++ (take (26 * n) (drop 8 block) ++ take (504 - (8 + 26 * n)) l)) (sym (drop-drop (26 * n) 8 block))
     ∙ ap (λ l. take 8 block ++ l) (sym (take-add (26 * n) (504 - (8 + 26 * n)) (drop 8 block)) ∙ ap (λ m. take m (drop 8 block)) long)
     ∙ sym (take-add 8 496 block)
 
-pub length-block-records : (block : List ℕ) → length (block-records block) ≡ getD block 6 0
-length-block-records block = length-map (pieces 26 (getD block 6 0) (drop 8 block)) record-of ∙ length-pieces 26 (getD block 6 0) (drop 8 block)
+pub length_block_records : (block : List ℕ) → length (block_records block) ≡ get_or block 6 0
+length_block_records block = length-map (pieces 26 (get_or block 6 0) (drop 8 block)) record_of ∙ length_pieces 26 (get_or block 6 0) (drop 8 block)
 
-pub block-back : (first : Header) (place : ℕ) (last : Bool) (block : List ℕ) → length block ≡ 512 → Bytes block → SoundBlock first place last block → block-bytes first place (block-records block) ≡ block
-unfolding block-bytes
-block-back first place last block long each sound =
-    let n = getD block 6 0 in
-    let few : n ≤ 19 = sound .front .few in
+pub block_back : (first : Header) (place : ℕ) (last : Bool) (block : List ℕ) → length block ≡ 512 → Bytes block → SoundBlock first place last block → block_bytes first place (block_records block) ≡ block
+unfolding block_bytes
+block_back first place last block long each sound =
+    let n = get_or block 6 0 in
+    let few : n ≤ 19 = sound.front.few in
     let parts = pieces 26 n (drop 8 block) in
     let room : 26 * n ≤ length (drop 8 block) = omega (arith, length-drop 8 block) in
-    let recs = block-records block in
-    let count : length recs ≡ n = length-block-records block in
-    let head : header-bytes (header-of block) ≡ header-bytes first = ap header-bytes (header-same (header-of block) first (sound .front .same)) in
-    let written : joined record-bytes recs ≡ take (26 * n) (drop 8 block) =
-    records-back _ place 0 parts (pieces-even 26 n (drop 8 block) room) (pieces-bytes 26 n (drop 8 block) (drop-bytes block 8 each)) (sound .records)
-    ∙ joined-pieces 26 n (drop 8 block) in
+    let recs = block_records block in
+    let count : length recs ≡ n = length_block_records block in
+    let head : header_bytes (header_of block) ≡ header_bytes first = ap header_bytes (header_same (header_of block) first sound.front.same) in
+    let written : flat_map record_bytes recs ≡ take (26 * n) (drop 8 block) =
+    records_back _ place 0 parts (pieces_even 26 n (drop 8 block) room) (pieces_bytes 26 n (drop 8 block) (drop_bytes block 8 each)) sound.records
+    ∙ joined_pieces 26 n (drop 8 block) in
     let tail = take (504 - (8 + 26 * n)) (drop (8 + 26 * n) block) in
     let lz : length tail ≡ 496 - 26 * length recs = length-take (504 - (8 + 26 * n)) (drop (8 + 26 * n) block) ∙ omega (arith, length-drop (8 + 26 * n) block) in
-    let zeros : replicate (496 - 26 * length recs) 0 ≡ tail = ap (λ k. replicate k 0) (sym lz) ∙ sym (zeros-back tail 0 (stray-none place (8 + 26 * n) _ (sound .zeros))) in
-    let body : block-body first place recs ≡ take 504 block =
-    (λ i. sym head i ++ (count i ∷ sym (sound .front .placed) i ∷ (written i ++ zeros i)))
-    ∙ sym (append-assoc (header-bytes (header-of block)) (n ∷ getD block 7 0 ∷ []) _)
-    ∙ ap (λ l. l ++ (take (26 * n) (drop 8 block) ++ tail)) (front-back block (omega arith) each)
-    ∙ whole-body block n few in
-    ap with-checksum body ∙ checksum-written-back block long each (sound .holds)
+    let zeros : replicate (496 - 26 * length recs) 0 ≡ tail = ap (λ k. replicate k 0) (sym lz) ∙ sym (zeros_back tail 0 (stray_none place (8 + 26 * n) _ sound.zeros)) in
+    let body : block_body first place recs ≡ take 504 block =
+    (λ i. sym head i ++ (count i ∷ sym sound.front.placed i ∷ (written i ++ zeros i)))
+    ∙ sym (append_assoc (header_bytes (header_of block)) (n ∷ get_or block 7 0 ∷ []) _)
+    ∙ ap (λ l. l ++ (take (26 * n) (drop 8 block) ++ tail)) (front_back block (omega arith) each)
+    ∙ whole_body block n few in
+    ap with_checksum body ∙ checksum_written_back block long each sound.holds

@@ -1,84 +1,75 @@
 -- What a sound block and a sound paper tell. Assumes nothing.
-use mathlib.Core.Path.{_≡_, refl, ap, _∙_}
-use mathlib.Core.Bool.{Bool, true}
-use mathlib.Core.List.{List, [], _∷_}
-use Prim.Native.Nat.{ℕ, zero, suc, _+_, _-_, _*_, _/_, _%_, _≤_, _<_}
-use native.Mathlib.Omega.{arith}
-use lib.Dec.{leb, ltb}
-use lib.ListN.{length, drop, getD}
-use Rattle·std.specs.Results.{isOk}
-use Rattle·std.specs.declared.result.Result.{Result}
-use Rattle·std.specs.declared.result.Result.the-variants.{Ok, Err}
-use Rattle·std.proofs.shelf.Lists.{getD-take, getD-drop}
-use Rattle·std.proofs.shelf.Tests.{false≢true, and-parts, leb-true, eqb-true}
-use Rattle·blocks.specs.Blocks.{blocks-in, checksum-holds, is-paper-length}
-use Rattle·blocks.specs.Faults.{as-block-fault}
-use Rattle·blocks.specs.Pieces.{pieces}
-use Rattle·blocks.proofs.Pieces.{getD-pieces, length-pieces}
-use Rattle·blocks.proofs.Tells.{cond-tells, then-tells}
-use Rattle·blocks.specs.declared.fault.BlockFault.the-variants.{Checksum}
-use Rattle·paper·specs.Headers.{header-of}
-use Rattle·paper·specs.Checks.{block-checked, blocks-checked, front-fits, is-nil, paper-checked, records-checked, zeros-checked}
-use Rattle·paper·specs.declared.header.Header.{Header}
-use Rattle·paper·specs.declared.fault.PaperFault.the-variants.{Length, InBlock}
-use Rattle·paper·proofs.Fronts.{Front, front-tells}
+use Rattle.std.proofs.Common.{◌≡◌, ℕ, zero, suc, ◌+◌, ◌-◌, ◌*◌, ◌/◌, ◌%◌, ◌<◌, ◌≤◌, Bool, true, ltb, leb, List, [], ◌∷◌, length, get_or, drop, is_ok, Ok, Err, Result, refl, ap, ◌∙◌, arith}
+use Rattle.std.proofs.lemmas.List.{get_or-take, get_or-drop}
+use Rattle.std.proofs.lemmas.Bool.{false≢true, and_parts, leb-true, eqb-true}
+use Rattle.blocks.specs.Blocks.{blocks_in, checksum_holds, is_paper_length}
+use Rattle.blocks.specs.Faults.{as_block_fault}
+use Rattle.blocks.specs.Pieces.{pieces}
+use Rattle.blocks.proofs.Pieces.{slice_index_or_pieces, length_pieces}
+use Rattle.blocks.proofs.Tells.{cond_tells, then_tells}
+use Rattle.blocks.specs.declared.fault.BlockFault.TheVariants.{Checksum}
+use Rattle.paper.specs.Headers.{header_of}
+use Rattle.paper.specs.Checks.{block_checked, blocks_checked, front_fits, is_nil, paper_checked, records_checked, zeros_checked}
+use Rattle.paper.specs.declared.header.Header.{Header}
+use Rattle.paper.specs.declared.fault.PaperFault.TheVariants.{Length, InBlock}
+use Rattle.paper.proofs.Fronts.{Front, front_tells}
 
-ok-tells : {T E : Type 0} (r : Result T E) → isOk r ≡ true → (x : T) × (r ≡ Ok x)
-ok-tells (Ok x) is = (x, refl)
-ok-tells (Err e) is = absurd (false≢true is)
+ok_tells : {T E : Type 0} (r : Result T E) → is_ok r ≡ true → (x : T) × (r ≡ Ok x)
+ok_tells (Ok x) is = (x, refl)
+ok_tells (Err e) is = absurd (false≢true is)
 
 pub record SoundBlock (first : Header) (place : ℕ) (last : Bool) (block : List ℕ) : Type 0 where
-  pub holds : checksum-holds block ≡ true
+  pub holds : checksum_holds block ≡ true
   pub front : Front first place last block
-  pub records : records-checked (getD block 5 0) place 0 (pieces 26 (getD block 6 0) (drop 8 block)) ≡ Ok tt
-  pub zeros : zeros-checked place (8 + 26 * getD block 6 0) block ≡ Ok tt
+  pub records : records_checked (get_or block 5 0) place 0 (pieces 26 (get_or block 6 0) (drop 8 block)) ≡ Ok tt
+  pub zeros : zeros_checked place (8 + 26 * get_or block 6 0) block ≡ Ok tt
 
-pub block-tells : (first : Header) (place : ℕ) (last : Bool) (block : List ℕ) (t : Unit {0}) → block-checked first place last block ≡ Ok t → SoundBlock first place last block
-unfolding block-checked
-block-tells first place last block t is =
-    let p = cond-tells (checksum-holds block) _ (Checksum place) t is in
-    let q = cond-tells (front-fits first place last block) _ _ t (p .1) in
-    let r = then-tells as-block-fault (records-checked (getD block 5 0) place 0 (pieces 26 (getD block 6 0) (drop 8 block))) _ t (q .1) in
-    let s = then-tells as-block-fault (zeros-checked place (8 + 26 * getD block 6 0) block) _ t (r .1) in
-    record { holds = p .0; front = front-tells first place last block (q .0); records = r .0 .1; zeros = s .0 .1 }
+pub block_tells : (first : Header) (place : ℕ) (last : Bool) (block : List ℕ) (t : Unit {0}) → block_checked first place last block ≡ Ok t → SoundBlock first place last block
+unfolding block_checked
+block_tells first place last block t is =
+    let p = cond_tells (checksum_holds block) _ (Checksum place) t is in
+    let q = cond_tells (front_fits first place last block) _ _ t p.1 in
+    let r = then_tells as_block_fault (records_checked (get_or block 5 0) place 0 (pieces 26 (get_or block 6 0) (drop 8 block))) _ t q.1 in
+    let s = then_tells as_block_fault (zeros_checked place (8 + 26 * get_or block 6 0) block) _ t r.1 in
+    record { holds = p.0; front = front_tells first place last block q.0; records = r.0.1; zeros = s.0.1 }
 
-pub blocks-tell : (first : Header) (i : ℕ) (b : List ℕ) (bs : List (List ℕ)) (h : Header) → blocks-checked first i (b ∷ bs) ≡ Ok h → SoundBlock first i (is-nil bs) b × (blocks-checked first (suc i) bs ≡ Ok h)
-blocks-tell first i b bs h is =
-    let p = then-tells InBlock (block-checked first i (is-nil bs) b) (blocks-checked first (suc i) bs) h is in
-    (block-tells first i (is-nil bs) b (p .0 .0) (p .0 .1), p .1)
+pub blocks_tell : (first : Header) (i : ℕ) (b : List ℕ) (bs : List (List ℕ)) (h : Header) → blocks_checked first i (b ∷ bs) ≡ Ok h → SoundBlock first i (is_nil bs) b × (blocks_checked first (suc i) bs ≡ Ok h)
+blocks_tell first i b bs h is =
+    let p = then_tells InBlock (block_checked first i (is_nil bs) b) (blocks_checked first (suc i) bs) h is in
+    (block_tells first i (is_nil bs) b p.0.0 p.0.1, p.1)
 
-counts : (first : Header) (i : ℕ) (bs : List (List ℕ)) (h : Header) → blocks-checked first i bs ≡ Ok h → (j : ℕ) → j < length bs → (1 ≤ getD (getD bs j []) 6 0) × (getD (getD bs j []) 6 0 ≤ 19)
+counts : (first : Header) (i : ℕ) (bs : List (List ℕ)) (h : Header) → blocks_checked first i bs ≡ Ok h → (j : ℕ) → j < length bs → (1 ≤ get_or (get_or bs j []) 6 0) × (get_or (get_or bs j []) 6 0 ≤ 19)
 counts first i [] h is j inside = absurd (omega arith)
-counts first i (b ∷ bs) h is zero inside = let p = blocks-tell first i b bs h is in (p .0 .front .some, p .0 .front .few)
-counts first i (b ∷ bs) h is (suc j) inside = counts first (suc i) bs h (blocks-tell first i b bs h is .1) j (omega arith)
+counts first i (b ∷ bs) h is zero inside = let p = blocks_tell first i b bs h is in (p.0.front.some, p.0.front.few)
+counts first i (b ∷ bs) h is (suc j) inside = counts first (suc i) bs h (blocks_tell first i b bs h is).1 j (omega arith)
 
-pub paper-tells : (paper : List ℕ) (h : Header) → paper-checked paper ≡ Ok h → (is-paper-length (length paper) ≡ true) × (blocks-checked (header-of paper) 0 (blocks-in paper) ≡ Ok h)
-unfolding paper-checked
-paper-tells paper h is = cond-tells (is-paper-length (length paper)) _ Length h is
+pub paper_tells : (paper : List ℕ) (h : Header) → paper_checked paper ≡ Ok h → (is_paper_length (length paper) ≡ true) × (blocks_checked (header_of paper) 0 (blocks_in paper) ≡ Ok h)
+unfolding paper_checked
+paper_tells paper h is = cond_tells (is_paper_length (length paper)) _ Length h is
 
 -- the length of a sound paper, and how many records its block in place j has
 pub record Counted (paper : List ℕ) (j : ℕ) : Type 0 where
   pub whole : length paper ≡ 512 * (length paper / 512)
   pub short : length paper ≤ 51200
-  pub some : j < length paper / 512 → 1 ≤ getD paper (512 * j + 6) 0
-  pub few : j < length paper / 512 → getD paper (512 * j + 6) 0 ≤ 19
-  pub count : j < length paper / 512 → getD (getD (blocks-in paper) j []) 6 0 ≡ getD paper (512 * j + 6) 0
+  pub some : j < length paper / 512 → 1 ≤ get_or paper (512 * j + 6) 0
+  pub few : j < length paper / 512 → get_or paper (512 * j + 6) 0 ≤ 19
+  pub count : j < length paper / 512 → get_or (get_or (blocks_in paper) j []) 6 0 ≡ get_or paper (512 * j + 6) 0
 
-pub sound-counted : (paper : List ℕ) (j : ℕ) → isOk (paper-checked paper) ≡ true → Counted paper j
-sound-counted paper j sound =
-    let o = ok-tells (paper-checked paper) sound in
-    let p = paper-tells paper (o .0) (o .1) in
+pub sound_counted : (paper : List ℕ) (j : ℕ) → is_ok (paper_checked paper) ≡ true → Counted paper j
+sound_counted paper j sound =
+    let o = ok_tells (paper_checked paper) sound in
+    let p = paper_tells paper o.0 o.1 in
     let n = length paper / 512 in
-    let q = and-parts (ltb 0 (length paper)) _ (p .0) in
-    let r = and-parts (leb (length paper) 51200) _ (q .1) in
-    let even = eqb-true (length paper % 512) 0 (r .1) in
-    let at : j < n → getD (getD (blocks-in paper) j []) 6 0 ≡ getD paper (512 * j + 6) 0 =
-    λ inside. ap (λ b. getD b 6 0) (getD-pieces 512 j n paper inside) ∙ getD-take 512 (drop (512 * j) paper) 6 0 (omega arith) ∙ getD-drop (512 * j) paper 6 0 in
-    let both : j < n → (1 ≤ getD (getD (blocks-in paper) j []) 6 0) × (getD (getD (blocks-in paper) j []) 6 0 ≤ 19) =
-    λ inside. counts (header-of paper) 0 (blocks-in paper) (o .0) (p .1) j (omega (arith, length-pieces 512 n paper)) in
+    let q = and_parts (ltb 0 (length paper)) _ p.0 in
+    let r = and_parts (leb (length paper) 51200) _ q.1 in
+    let even = eqb-true (length paper % 512) 0 r.1 in
+    let at : j < n → get_or (get_or (blocks_in paper) j []) 6 0 ≡ get_or paper (512 * j + 6) 0 =
+    λ inside. ap (λ b. get_or b 6 0) (slice_index_or_pieces 512 j n paper inside) ∙ get_or-take 512 (drop (512 * j) paper) 6 0 (omega arith) ∙ get_or-drop (512 * j) paper 6 0 in
+    let both : j < n → (1 ≤ get_or (get_or (blocks_in paper) j []) 6 0) × (get_or (get_or (blocks_in paper) j []) 6 0 ≤ 19) =
+    λ inside. counts (header_of paper) 0 (blocks_in paper) o.0 p.1 j (omega (arith, length_pieces 512 n paper)) in
     record {
       whole = omega arith;
-      short = leb-true (length paper) 51200 (r .0);
+      short = leb-true (length paper) 51200 r.0;
       some = λ inside. let e = at inside in let b = both inside in omega arith;
       few = λ inside. let e = at inside in let b = both inside in omega arith;
       count = at;

@@ -1,83 +1,73 @@
 -- The steps of the loops over a block's records and a paper's blocks. Assumes nothing.
-use mathlib.Core.Path.{_≡_, refl, ap, sym, _∙_}
-use mathlib.Core.Bool.{Bool, true, false, cond}
-use mathlib.Core.List.{List}
-use Prim.Native.Nat.{ℕ, zero, suc, _+_, _-_, _*_, _/_, _≤_, _<_}
-use native.Mathlib.Numerals.{add-one}
-use native.Mathlib.Omega.{arith}
-use lib.Dec.{eqb}
-use lib.ListN.{length, take, drop}
-use Rattle·std.specs.declared.option.Option.the-variants.{Some, None}
-use Rattle·std.specs.declared.result.Result.{Result}
-use Rattle·std.specs.declared.result.Result.the-variants.{Ok, Err}
-use Rattle·std.proofs.shelf.Lists.{drop-drop}
-use Rattle·std.proofs.shelf.Ways.{tells}
-use Rattle·blocks.specs.Blocks.{blocks-in, count-in, is-paper-length}
-use Rattle·blocks.specs.Faults.{then}
-use Rattle·blocks.specs.Pieces.{pieces}
-use Rattle·blocks.proofs.Pieces.{pieces-more}
-use Rattle·blocks.specs.declared.fault.BlockFault.{BlockFault}
-use Rattle·blocks.specs.declared.fault.RecordFault.{RecordFault}
-use Rattle·paper·specs.Headers.{header-of}
-use Rattle·paper·specs.Checks.{block-checked, blocks-checked, is-nil, paper-checked, part-fits, records-checked}
-use Rattle·paper·specs.declared.header.Header.{Header}
-use Rattle·paper·specs.declared.fault.PaperFault.{PaperFault}
-use Rattle·paper·specs.declared.fault.PaperFault.the-variants.{Length, InBlock}
+use Rattle.std.proofs.Common.{◌≡◌, ℕ, zero, suc, ◌+◌, ◌-◌, ◌*◌, ◌/◌, ◌<◌, ◌≤◌, Bool, true, false, cond, eqb, List, length, take, drop, Some, None, Ok, Err, Result, sym, refl, ap, ◌∙◌, add-one, arith}
+use Rattle.std.proofs.lemmas.List.{drop-drop}
+use Rattle.std.proofs.lemmas.Bool.Decides.{nat_tests}
+use Rattle.blocks.specs.Blocks.{blocks_in, count_in, is_paper_length}
+use Rattle.blocks.specs.Faults.{then}
+use Rattle.blocks.specs.Pieces.{pieces}
+use Rattle.blocks.proofs.Pieces.{pieces_more}
+use Rattle.blocks.specs.declared.fault.BlockFault.{BlockFault}
+use Rattle.blocks.specs.declared.fault.RecordFault.{RecordFault}
+use Rattle.paper.specs.Headers.{header_of}
+use Rattle.paper.specs.Checks.{block_checked, blocks_checked, is_nil, paper_checked, part_fits, records_checked}
+use Rattle.paper.specs.declared.header.Header.{Header}
+use Rattle.paper.specs.declared.fault.PaperFault.{PaperFault}
+use Rattle.paper.specs.declared.fault.PaperFault.TheVariants.{Length, InBlock}
 
 -- the records from the i-th on
-abbrev pub records-left : ℕ → ℕ → List ℕ → ℕ → ℕ → Result (Unit {0}) RecordFault
-records-left kind place block n i = records-checked kind place i (pieces 26 (n - i) (drop (26 * i) (drop 8 block)))
+abbrev pub records_left : ℕ → ℕ → List ℕ → ℕ → ℕ → Result (Unit {0}) RecordFault
+records_left kind place block n i = records_checked kind place i (pieces 26 (n - i) (drop (26 * i) (drop 8 block)))
 
-pub records-step : (kind place : ℕ) (block : List ℕ) (n i k : ℕ) (fits : Bool) → i < n → k ≡ i → part-fits kind (take (8 + 26 * k + 26 - (8 + 26 * k)) (drop (8 + 26 * k) block)) ≡ fits →
-    records-left kind place block n i ≡ cond fits (records-left kind place block n (i + 1)) (Err (record { block = place; «record» = i + 1 }))
-records-step kind place block n i k fits inside same is =
+pub records_step : (kind place : ℕ) (block : List ℕ) (n i k : ℕ) (fits : Bool) → i < n → k ≡ i → part_fits kind (take (8 + 26 * k + 26 - (8 + 26 * k)) (drop (8 + 26 * k) block)) ≡ fits →
+    records_left kind place block n i ≡ cond fits (records_left kind place block n (i + 1)) (Err (record { block = place; «record» = i + 1 }))
+records_step kind place block n i k fits inside same is =
     let width : 8 + 26 * k + 26 - (8 + 26 * k) ≡ 26 = omega arith in
     let from : 8 + 26 * k ≡ 8 + 26 * i = omega arith in
     let here : take 26 (drop (26 * i) (drop 8 block)) ≡ take (8 + 26 * k + 26 - (8 + 26 * k)) (drop (8 + 26 * k) block) =
     ap (take 26) (drop-drop (26 * i) 8 block) ∙ λ j. take (sym width j) (drop (sym from j) block) in
-    ap (records-checked kind place i) (pieces-more 26 i n (drop 8 block) inside)
-    ∙ ap (λ t. cond t (records-checked kind place (suc i) (pieces 26 (n - (i + 1)) (drop (26 * (i + 1)) (drop 8 block)))) (Err (record { block = place; «record» = i + 1 }))) (ap (part-fits kind) here ∙ is)
-    ∙ ap (λ j. cond fits (records-checked kind place j (pieces 26 (n - (i + 1)) (drop (26 * (i + 1)) (drop 8 block)))) (Err (record { block = place; «record» = i + 1 }))) (sym (add-one i))
+    ap (records_checked kind place i) (pieces_more 26 i n (drop 8 block) inside)
+    ∙ ap (λ t. cond t (records_checked kind place (suc i) (pieces 26 (n - (i + 1)) (drop (26 * (i + 1)) (drop 8 block)))) (Err (record { block = place; «record» = i + 1 }))) (ap (part_fits kind) here ∙ is)
+    ∙ ap (λ j. cond fits (records_checked kind place j (pieces 26 (n - (i + 1)) (drop (26 * (i + 1)) (drop 8 block)))) (Err (record { block = place; «record» = i + 1 }))) (sym (add-one i))
 
-pub records-none : (kind place : ℕ) (block : List ℕ) (n i : ℕ) → n ≤ i → records-left kind place block n i ≡ Ok tt
-records-none kind place block n i past = let none : n - i ≡ 0 = omega arith in ap (λ m. records-checked kind place i (pieces 26 m (drop (26 * i) (drop 8 block)))) none
+pub records_none : (kind place : ℕ) (block : List ℕ) (n i : ℕ) → n ≤ i → records_left kind place block n i ≡ Ok tt
+records_none kind place block n i past = let none : n - i ≡ 0 = omega arith in ap (λ m. records_checked kind place i (pieces 26 m (drop (26 * i) (drop 8 block)))) none
 
-pub records-all : (kind place : ℕ) (block : List ℕ) (n : ℕ) → records-left kind place block n 0 ≡ records-checked kind place 0 (pieces 26 n (drop 8 block))
-records-all kind place block n = let all : n - 0 ≡ n = omega arith in ap (λ m. records-checked kind place 0 (pieces 26 m (drop 8 block))) all
+pub records_all : (kind place : ℕ) (block : List ℕ) (n : ℕ) → records_left kind place block n 0 ≡ records_checked kind place 0 (pieces 26 n (drop 8 block))
+records_all kind place block n = let all : n - 0 ≡ n = omega arith in ap (λ m. records_checked kind place 0 (pieces 26 m (drop 8 block))) all
 
 -- the blocks from the i-th on
-abbrev pub blocks-left : Header → List ℕ → ℕ → ℕ → Result Header PaperFault
-blocks-left first paper n i = blocks-checked first i (pieces 512 (n - i) (drop (512 * i) paper))
+abbrev pub blocks_left : Header → List ℕ → ℕ → ℕ → Result Header PaperFault
+blocks_left first paper n i = blocks_checked first i (pieces 512 (n - i) (drop (512 * i) paper))
 
-nil-pieces : {X : Type 0} (width n : ℕ) (xs : List X) → is-nil (pieces width n xs) ≡ eqb n 0
-nil-pieces width zero xs = refl
-nil-pieces width (suc n) xs = grind (arith, tells)
+nil_pieces : {X : Type 0} (width n : ℕ) (xs : List X) → is_nil (pieces width n xs) ≡ eqb n 0
+nil_pieces width zero xs = refl
+nil_pieces width (suc n) xs = grind (arith, nat_tests)
 
-pub blocks-step : (first : Header) (paper : List ℕ) (n i : ℕ) (answer : Result (Unit {0}) BlockFault) → i < n →
-    block-checked first i (eqb (i + 1) n) (take (512 * i + 512 - 512 * i) (drop (512 * i) paper)) ≡ answer →
-    blocks-left first paper n i ≡ then InBlock answer (blocks-left first paper n (i + 1))
-blocks-step first paper n i answer inside is =
+pub blocks_step : (first : Header) (paper : List ℕ) (n i : ℕ) (answer : Result (Unit {0}) BlockFault) → i < n →
+    block_checked first i (eqb (i + 1) n) (take (512 * i + 512 - 512 * i) (drop (512 * i) paper)) ≡ answer →
+    blocks_left first paper n i ≡ then InBlock answer (blocks_left first paper n (i + 1))
+blocks_step first paper n i answer inside is =
     let width : 512 * i + 512 - 512 * i ≡ 512 = omega arith in
     let ps = pieces 512 (n - (i + 1)) (drop (512 * (i + 1)) paper) in
-    let last : is-nil ps ≡ eqb (i + 1) n = nil-pieces 512 (n - (i + 1)) (drop (512 * (i + 1)) paper) ∙ grind (arith, tells) in
-    ap (blocks-checked first i) (pieces-more 512 i n paper inside)
-    ∙ ap (λ r. then InBlock r (blocks-checked first (suc i) ps)) ((λ j. block-checked first i (last j) (take (sym width j) (drop (512 * i) paper))) ∙ is)
-    ∙ ap (λ j. then InBlock answer (blocks-checked first j ps)) (sym (add-one i))
+    let last : is_nil ps ≡ eqb (i + 1) n = nil_pieces 512 (n - (i + 1)) (drop (512 * (i + 1)) paper) ∙ grind (arith, nat_tests) in
+    ap (blocks_checked first i) (pieces_more 512 i n paper inside)
+    ∙ ap (λ r. then InBlock r (blocks_checked first (suc i) ps)) ((λ j. block_checked first i (last j) (take (sym width j) (drop (512 * i) paper))) ∙ is)
+    ∙ ap (λ j. then InBlock answer (blocks_checked first j ps)) (sym (add-one i))
 
-pub blocks-none : (first : Header) (paper : List ℕ) (n i : ℕ) → n ≤ i → blocks-left first paper n i ≡ Ok first
-blocks-none first paper n i past = let none : n - i ≡ 0 = omega arith in ap (λ m. blocks-checked first i (pieces 512 m (drop (512 * i) paper))) none
+pub blocks_none : (first : Header) (paper : List ℕ) (n i : ℕ) → n ≤ i → blocks_left first paper n i ≡ Ok first
+blocks_none first paper n i past = let none : n - i ≡ 0 = omega arith in ap (λ m. blocks_checked first i (pieces 512 m (drop (512 * i) paper))) none
 
-pub blocks-all : (first : Header) (paper : List ℕ) (n : ℕ) → blocks-left first paper n 0 ≡ blocks-checked first 0 (pieces 512 n paper)
-blocks-all first paper n = let all : n - 0 ≡ n = omega arith in ap (λ m. blocks-checked first 0 (pieces 512 m paper)) all
+pub blocks_all : (first : Header) (paper : List ℕ) (n : ℕ) → blocks_left first paper n 0 ≡ blocks_checked first 0 (pieces 512 n paper)
+blocks_all first paper n = let all : n - 0 ≡ n = omega arith in ap (λ m. blocks_checked first 0 (pieces 512 m paper)) all
 
 counted : (b : Bool) (m n : ℕ) → Some n ≡ cond b (Some m) None → (b ≡ true) × (m ≡ n)
 counted true m n is = (refl, cc)
-counted false m n is = let z : _≡_ {A = ℕ} 0 1 = cc in absurd (omega arith)
+counted false m n is = let z : ◌≡◌ {A = ℕ} 0 1 = cc in absurd (omega arith)
 
 -- the paper's check, where its length is right
-pub paper-blocks : (paper : List ℕ) (h : Header) (n : ℕ) → Some n ≡ count-in (length paper) → h ≡ header-of paper → blocks-checked h 0 (pieces 512 n paper) ≡ paper-checked paper
-unfolding paper-checked
-paper-blocks paper h n long is =
-    let p = counted (is-paper-length (length paper)) (length paper / 512) n long in
-    (λ j. blocks-checked (is j) 0 (pieces 512 (sym (p .1) j) paper))
-    ∙ ap (λ b. cond b (blocks-checked (header-of paper) 0 (blocks-in paper)) (Err Length)) (sym (p .0))
+pub paper_blocks : (paper : List ℕ) (h : Header) (n : ℕ) → Some n ≡ count_in (length paper) → h ≡ header_of paper → blocks_checked h 0 (pieces 512 n paper) ≡ paper_checked paper
+unfolding paper_checked
+paper_blocks paper h n long is =
+    let p = counted (is_paper_length (length paper)) (length paper / 512) n long in
+    (λ j. blocks_checked (is j) 0 (pieces 512 (sym p.1 j) paper))
+    ∙ ap (λ b. cond b (blocks_checked (header_of paper) 0 (blocks_in paper)) (Err Length)) (sym p.0)

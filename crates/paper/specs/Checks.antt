@@ -1,77 +1,69 @@
 -- What the check of a block and of a paper answers, each fault in its turn. Assumes nothing.
-use mathlib.Core.List.{List, [], _∷_}
-use mathlib.Core.Bool.{Bool, true, false, cond, _&&_}
-use Prim.Native.Nat.{ℕ, suc, _+_, _*_, _-_, _/_}
-use lib.Dec.{eqb, leb, ltb}
-use lib.ListN.{length, getD, take, drop}
-use Rattle·std.specs.declared.option.Option.{Option}
-use Rattle·std.specs.declared.option.Option.the-variants.{Some, None}
-use Rattle·std.specs.declared.result.Result.{Result}
-use Rattle·std.specs.declared.result.Result.the-variants.{Ok, Err}
-use Rattle·blocks.specs.Blocks.{is-paper-length, blocks-in, checksum-holds}
-use Rattle·blocks.specs.Faults.{as-block-fault, then}
-use Rattle·blocks.specs.Pieces.{pieces}
-use Rattle·blocks.specs.declared.fault.RecordFault.{RecordFault}
-use Rattle·blocks.specs.declared.fault.BlockFault.{BlockFault}
-use Rattle·blocks.specs.declared.fault.BlockFault.the-variants.{Checksum, Header}
-use Rattle·paper·specs.Headers.{header-of, header-fits, same-header}
-use Rattle·paper·specs.Records.{is-code, record-of, record-fits}
-use Rattle·paper·specs.Zeros.{first-nonzero}
-use Rattle·paper·specs.declared.header.Header as header
-use Rattle·paper·specs.declared.fault.PaperFault.{PaperFault}
-use Rattle·paper·specs.declared.fault.PaperFault.the-variants.{Length, InBlock}
+use Rattle.std.specs.Prelude.{ℕ, suc, ◌+◌, ◌-◌, ◌*◌, ◌/◌, Bool, true, false, cond, ◌&&◌, List, [], ◌∷◌, length, drop, Some, None, Ok, Err, Option, Result, ◌==◌, nat_le, nat_lt, slice_index, slice_range}
+use Rattle.blocks.specs.Blocks.{is_paper_length, blocks_in, checksum_holds}
+use Rattle.blocks.specs.Faults.{as_block_fault, then}
+use Rattle.blocks.specs.Pieces.{pieces}
+use Rattle.blocks.specs.declared.fault.RecordFault.{RecordFault}
+use Rattle.blocks.specs.declared.fault.BlockFault.{BlockFault}
+use Rattle.blocks.specs.declared.fault.BlockFault.TheVariants.{Checksum, Header}
+use Rattle.paper.specs.Headers.{header_of, header_fits, same_header}
+use Rattle.paper.specs.Records.{is_code, record_of, record_fits}
+use Rattle.paper.specs.Zeros.{first_nonzero}
+use Rattle.paper.specs.declared.header.Header as header
+use Rattle.paper.specs.declared.fault.PaperFault.{PaperFault}
+use Rattle.paper.specs.declared.fault.PaperFault.TheVariants.{Length, InBlock}
 
 -- 19 records in every block but the last, and at least one there
-abbrev pub count-fits : Bool → ℕ → Bool
-count-fits last count = cond last (leb 1 count && leb count 19) (eqb count 19)
+abbrev pub count_fits : Bool → ℕ → Bool
+count_fits last count = cond last (nat_le 1 count && nat_le count 19) (count == 19)
 
 -- bytes 0 to 7: the header, as in the first block, the count of records, and the block's place
-unfoldable pub front-fits : header.Header → ℕ → Bool → List ℕ → Bool
-front-fits first place last block =
-    header-fits (header-of block) && (same-header (header-of block) first && (count-fits last (getD block 6 0) && eqb (getD block 7 0) place))
+unfoldable pub front_fits : header.Header → ℕ → Bool → List ℕ → Bool
+front_fits first place last block =
+    header_fits (header_of block) && (same_header (header_of block) first && (count_fits last (slice_index block 6) && slice_index block 7 == place))
 
 -- whether 26 bytes are a record that a paper of this kind may have
-abbrev pub part-fits : ℕ → List ℕ → Bool
-part-fits kind part = is-code (getD part 0 0) && record-fits kind (record-of part)
+abbrev pub part_fits : ℕ → List ℕ → Bool
+part_fits kind part = is_code (slice_index part 0) && record_fits kind (record_of part)
 
 -- the answer for records counted from i, in the block in a place: Ok, or the first that is unfit
-abbrev pub records-checked : ℕ → ℕ → ℕ → List (List ℕ) → Result (Unit {0}) RecordFault
-records-checked kind place i [] = Ok tt
-records-checked kind place i (p ∷ ps) = cond (part-fits kind p) (records-checked kind place (suc i) ps) (Err (record { block = place; «record» = i + 1 }))
+abbrev pub records_checked : ℕ → ℕ → ℕ → List (List ℕ) → Result (Unit {0}) RecordFault
+records_checked kind place i [] = Ok tt
+records_checked kind place i (p ∷ ps) = cond (part_fits kind p) (records_checked kind place (suc i) ps) (Err (record { block = place; «record» = i + 1 }))
 
 -- the place from 1 of the record in which a byte lies, or 0 for bytes 502 and 503
-abbrev pub record-at : ℕ → ℕ
-record-at byte = cond (ltb byte 502) ((byte - 8) / 26 + 1) 0
+abbrev pub record_at : ℕ → ℕ
+record_at byte = cond (nat_lt byte 502) ((byte - 8) / 26 + 1) 0
 
 -- the answer, by how far behind byte `from` the first nonzero byte lies, if any
 abbrev pub stray : ℕ → ℕ → Option ℕ → Result (Unit {0}) RecordFault
 stray place from None = Ok tt
-stray place from (Some k) = Err (record { block = place; «record» = record-at (from + k) })
+stray place from (Some k) = Err (record { block = place; «record» = record_at (from + k) })
 
 -- the answer for the bytes from `from` up to the checksum, which must be zero
-abbrev pub zeros-checked : ℕ → ℕ → List ℕ → Result (Unit {0}) RecordFault
-zeros-checked place from block = stray place from (first-nonzero 0 (take (504 - from) (drop from block)))
+abbrev pub zeros_checked : ℕ → ℕ → List ℕ → Result (Unit {0}) RecordFault
+zeros_checked place from block = stray place from (first_nonzero 0 (slice_range block from 504))
 
 -- the answer for the block in a place, by its checksum, its header, its records, and the zeros behind them
-unfoldable pub block-checked : header.Header → ℕ → Bool → List ℕ → Result (Unit {0}) BlockFault
-block-checked first place last block =
-    cond (checksum-holds block)
-    (cond (front-fits first place last block)
-    (then as-block-fault (records-checked (getD block 5 0) place 0 (pieces 26 (getD block 6 0) (drop 8 block)))
-    (then as-block-fault (zeros-checked place (8 + 26 * getD block 6 0) block) (Ok tt)))
+unfoldable pub block_checked : header.Header → ℕ → Bool → List ℕ → Result (Unit {0}) BlockFault
+block_checked first place last block =
+    cond (checksum_holds block)
+    (cond (front_fits first place last block)
+    (then as_block_fault (records_checked (slice_index block 5) place 0 (pieces 26 (slice_index block 6) (drop 8 block)))
+    (then as_block_fault (zeros_checked place (8 + 26 * slice_index block 6) block) (Ok tt)))
     (Err (Header place)))
     (Err (Checksum place))
 
 -- whether nothing is left
-abbrev pub is-nil : {X : Type 0} → List X → Bool
-is-nil [] = true
-is-nil (x ∷ xs) = false
+abbrev pub is_nil : {X : Type 0} → List X → Bool
+is_nil [] = true
+is_nil (x ∷ xs) = false
 
 -- the answer for blocks counted from i, up to the paper's last: the header, or the first fault
-abbrev pub blocks-checked : header.Header → ℕ → List (List ℕ) → Result header.Header PaperFault
-blocks-checked first i [] = Ok first
-blocks-checked first i (b ∷ bs) = then InBlock (block-checked first i (is-nil bs) b) (blocks-checked first (suc i) bs)
+abbrev pub blocks_checked : header.Header → ℕ → List (List ℕ) → Result header.Header PaperFault
+blocks_checked first i [] = Ok first
+blocks_checked first i (b ∷ bs) = then InBlock (block_checked first i (is_nil bs) b) (blocks_checked first (suc i) bs)
 
 -- the answer for a whole paper: its header, or its first fault
-unfoldable pub paper-checked : List ℕ → Result header.Header PaperFault
-paper-checked paper = cond (is-paper-length (length paper)) (blocks-checked (header-of paper) 0 (blocks-in paper)) (Err Length)
+unfoldable pub paper_checked : List ℕ → Result header.Header PaperFault
+paper_checked paper = cond (is_paper_length (length paper)) (blocks_checked (header_of paper) 0 (blocks_in paper)) (Err Length)

@@ -1,39 +1,35 @@
 -- The header of a paper: bytes 0 to 5, equal in all its blocks. Assumes nothing.
-use mathlib.Core.List.{List, [], _∷_, _++_}
-use mathlib.Core.Bool.{Bool, _&&_, _||_}
-use Prim.Native.Nat.{ℕ}
-use lib.Dec.{eqb, leb}
-use lib.ListN.{getD}
-use Rattle·numbers.specs.LittleEndian.{number-at, bytes-of}
-use Rattle·rules.specs.Rules.{plain-rule-number, fnv-rule-number}
-use Rattle·tallies.specs.Replicas.{replicas-kind-number}
-use Rattle·tallies.specs.Traffic.{traffic-kind-number}
-use Rattle·paper·specs.declared.header.Header.{Header}
+use Rattle.std.specs.Prelude.{ℕ, Bool, ◌&&◌, ◌||◌, List, [], ◌∷◌, ◌++◌, ◌==◌, nat_le, slice_index}
+use Rattle.numbers.specs.LittleEndian.{number_at, bytes_of}
+use Rattle.rules.specs.Rules.{plain_rule_number, fnv_rule_number}
+use Rattle.tallies.specs.Replicas.{replicas_kind_number}
+use Rattle.tallies.specs.Traffic.{traffic_kind_number}
+use Rattle.paper.specs.declared.header.Header.{Header}
 
 -- the header in the first bytes of a block
-abbrev pub header-of : List ℕ → Header
-header-of bytes = record { buckets = number-at 2 bytes 0; rows = getD bytes 2 0; most = getD bytes 3 0; rule = getD bytes 4 0; kind = getD bytes 5 0 }
+abbrev pub header_of : List ℕ → Header
+header_of bytes = record { buckets = number_at 2 bytes 0; rows = slice_index bytes 2; most = slice_index bytes 3; rule = slice_index bytes 4; kind = slice_index bytes 5 }
 
 -- the bytes of a header
-abbrev pub header-bytes : Header → List ℕ
-header-bytes h = bytes-of 2 (h .buckets) ++ (h .rows ∷ h .most ∷ h .rule ∷ h .kind ∷ [])
+abbrev pub header_bytes : Header → List ℕ
+header_bytes h = bytes_of 2 h.buckets ++ (h.rows ∷ h.most ∷ h.rule ∷ h.kind ∷ [])
 
 -- whether a number names a rule
-abbrev pub is-rule : ℕ → Bool
-is-rule n = eqb n plain-rule-number || eqb n fnv-rule-number
+abbrev pub is_rule : ℕ → Bool
+is_rule n = n == plain_rule_number || n == fnv_rule_number
 
 -- whether a number names a kind of tally
-abbrev pub is-kind : ℕ → Bool
-is-kind n = eqb n replicas-kind-number || eqb n traffic-kind-number
+abbrev pub is_kind : ℕ → Bool
+is_kind n = n == replicas_kind_number || n == traffic_kind_number
 
 -- whether buckets, rows and most rows keep a paper's limits
-abbrev pub shape-fits : Header → Bool
-shape-fits h = leb 2 (h .buckets) && (leb (h .buckets) 256 && (leb (h .most) 8 && (leb 1 (h .rows) && leb (h .rows) (h .most))))
+abbrev pub shape_fits : Header → Bool
+shape_fits h = nat_le 2 h.buckets && (nat_le h.buckets 256 && (nat_le h.most 8 && (nat_le 1 h.rows && nat_le h.rows h.most)))
 
 -- whether a paper may have the header
-unfoldable pub header-fits : Header → Bool
-header-fits h = shape-fits h && (is-rule (h .rule) && is-kind (h .kind))
+unfoldable pub header_fits : Header → Bool
+header_fits h = shape_fits h && (is_rule h.rule && is_kind h.kind)
 
 -- whether two headers are equal, field by field
-abbrev pub same-header : Header → Header → Bool
-same-header g h = eqb (g .buckets) (h .buckets) && (eqb (g .rows) (h .rows) && (eqb (g .most) (h .most) && (eqb (g .rule) (h .rule) && eqb (g .kind) (h .kind))))
+abbrev pub same_header : Header → Header → Bool
+same_header g h = g.buckets == h.buckets && (g.rows == h.rows && (g.most == h.most && (g.rule == h.rule && g.kind == h.kind)))

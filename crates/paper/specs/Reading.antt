@@ -1,33 +1,29 @@
 -- The records of a paper, one after another. Assumes nothing.
-use mathlib.Core.List.{List, [], _∷_, _++_, map}
-use Prim.Native.Nat.{ℕ, _+_}
-use lib.ListN.{getD, drop}
-use Rattle·std.specs.Joined.{joined}
-use Rattle·std.specs.declared.option.Option.{Option}
-use Rattle·std.specs.declared.option.Option.the-variants.{Some, None}
-use Rattle·blocks.specs.Blocks.{blocks-in}
-use Rattle·blocks.specs.Pieces.{pieces}
-use Rattle·paper·specs.Records.{record-of}
-use Rattle·paper·specs.declared.«record».Record.{Record}
+use Rattle.std.specs.Prelude.{ℕ, ◌+◌, List, [], ◌∷◌, ◌++◌, map, drop, Some, None, Option, slice_index, slice_index_or}
+use Rattle.std.specs.List.{flat_map}
+use Rattle.blocks.specs.Blocks.{blocks_in}
+use Rattle.blocks.specs.Pieces.{pieces}
+use Rattle.paper.specs.Records.{record_of}
+use Rattle.paper.specs.declared.«record».Record.{Record}
 
 -- the records of a block, as many as it counts
-abbrev pub block-records : List ℕ → List Record
-block-records block = map record-of (pieces 26 (getD block 6 0) (drop 8 block))
+abbrev pub block_records : List ℕ → List Record
+block_records block = map record_of (pieces 26 (slice_index block 6) (drop 8 block))
 
 -- the records of all blocks
-abbrev pub paper-records : List ℕ → List Record
-paper-records paper = joined block-records (blocks-in paper)
+abbrev pub paper_records : List ℕ → List Record
+paper_records paper = flat_map block_records (blocks_in paper)
 
 -- the records from a place of a block on, and those of the blocks behind it
-unfoldable pub to-come : List ℕ → ℕ → ℕ → List Record
-to-come paper block place = drop place (block-records (getD (blocks-in paper) block [])) ++ joined block-records (drop (block + 1) (blocks-in paper))
+unfoldable pub to_come : List ℕ → ℕ → ℕ → List Record
+to_come paper block place = drop place (block_records (slice_index_or (blocks_in paper) block [])) ++ flat_map block_records (drop (block + 1) (blocks_in paper))
 
 -- the record that comes next, if any
-abbrev pub first-of : List Record → Option Record
-first-of [] = None
-first-of (r ∷ rs) = Some r
+abbrev pub first_of : List Record → Option Record
+first_of [] = None
+first_of (r ∷ rs) = Some r
 
 -- the records behind it
-abbrev pub others-of : List Record → List Record
-others-of [] = []
-others-of (r ∷ rs) = rs
+abbrev pub others_of : List Record → List Record
+others_of [] = []
+others_of (r ∷ rs) = rs

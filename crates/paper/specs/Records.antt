@@ -1,76 +1,71 @@
 -- The records of a paper: 26 bytes each, a call with its key and its amounts. Assumes nothing.
-use mathlib.Core.List.{List, _∷_, _++_}
-use mathlib.Core.Bool.{Bool, true, false, cond, not, _&&_, _||_}
-use mathlib.Core.Path.{_≡_}
-use Prim.Native.Nat.{ℕ, _^_, _<_}
-use lib.Dec.{eqb, leb}
-use lib.ListN.{length, getD, take, drop}
-use Rattle·numbers.specs.LittleEndian.{number-at, bytes-of}
-use Rattle·tallies.specs.Replicas.{replicas-kind-number}
-use Rattle·paper·specs.Zeros.{all-zero}
-use Rattle·paper·specs.declared.«record».Call.{Call}
-use Rattle·paper·specs.declared.«record».Call.the-variants.{Post, Reverse, Erase, LookUp, Widen, Narrow}
-use Rattle·paper·specs.declared.«record».Record.{Record}
+use Rattle.std.specs.Prelude.{◌≡◌, ℕ, ◌^◌, ◌<◌, Bool, true, false, cond, not, ◌&&◌, ◌||◌, List, ◌∷◌, ◌++◌, length, take, drop, ◌==◌, nat_le, slice_index}
+use Rattle.numbers.specs.LittleEndian.{number_at, bytes_of}
+use Rattle.tallies.specs.Replicas.{replicas_kind_number}
+use Rattle.paper.specs.Zeros.{all_zero}
+use Rattle.paper.specs.declared.«record».Call.{Call}
+use Rattle.paper.specs.declared.«record».Call.TheVariants.{Post, Reverse, Erase, LookUp, Widen, Narrow}
+use Rattle.paper.specs.declared.«record».Record.{Record}
 
 -- the byte that names a call
-abbrev pub code-of : Call → ℕ
-code-of Post = 1
-code-of Reverse = 2
-code-of Erase = 3
-code-of LookUp = 4
-code-of Widen = 5
-code-of Narrow = 6
+abbrev pub code_of : Call → ℕ
+code_of Post = 1
+code_of Reverse = 2
+code_of Erase = 3
+code_of LookUp = 4
+code_of Widen = 5
+code_of Narrow = 6
 
 -- whether a byte names a call
-abbrev pub is-code : ℕ → Bool
-is-code n = leb 1 n && leb n 6
+abbrev pub is_code : ℕ → Bool
+is_code n = nat_le 1 n && nat_le n 6
 
 -- the call of a code from 1 to 6
-abbrev pub call-of : ℕ → Call
-call-of n = cond (eqb n 1) Post (cond (eqb n 2) Reverse (cond (eqb n 3) Erase (cond (eqb n 4) LookUp (cond (eqb n 5) Widen Narrow))))
+abbrev pub call_of : ℕ → Call
+call_of n = cond (n == 1) Post (cond (n == 2) Reverse (cond (n == 3) Erase (cond (n == 4) LookUp (cond (n == 5) Widen Narrow))))
 
 -- whether a call has packets and octets
-abbrev pub takes-amount : Call → Bool
-takes-amount Post = true
-takes-amount Reverse = true
-takes-amount Erase = false
-takes-amount LookUp = false
-takes-amount Widen = false
-takes-amount Narrow = false
+abbrev pub takes_amount : Call → Bool
+takes_amount Post = true
+takes_amount Reverse = true
+takes_amount Erase = false
+takes_amount LookUp = false
+takes_amount Widen = false
+takes_amount Narrow = false
 
 -- whether a call has a key
-abbrev pub takes-key : Call → Bool
-takes-key Post = true
-takes-key Reverse = true
-takes-key Erase = true
-takes-key LookUp = true
-takes-key Widen = false
-takes-key Narrow = false
+abbrev pub takes_key : Call → Bool
+takes_key Post = true
+takes_key Reverse = true
+takes_key Erase = true
+takes_key LookUp = true
+takes_key Widen = false
+takes_key Narrow = false
 
 -- packets and octets are zero where the call takes none
-abbrev pub amount-fits : Record → Bool
-amount-fits r = takes-amount (r .call) || (eqb (r .packets) 0 && eqb (r .octets) 0)
+abbrev pub amount_fits : Record → Bool
+amount_fits r = takes_amount r.call || (r.packets == 0 && r.octets == 0)
 
 -- the key is zero where the call takes none
-abbrev pub key-fits : Record → Bool
-key-fits r = takes-key (r .call) || all-zero (r .key)
+abbrev pub key_fits : Record → Bool
+key_fits r = takes_key r.call || all_zero r.key
 
 -- replicas have no octets
-abbrev pub octets-fit : ℕ → Record → Bool
-octets-fit kind r = not (eqb kind replicas-kind-number) || eqb (r .octets) 0
+abbrev pub octets_fit : ℕ → Record → Bool
+octets_fit kind r = not (kind == replicas_kind_number) || r.octets == 0
 
 -- whether a paper of this kind may have the record
-unfoldable pub record-fits : ℕ → Record → Bool
-record-fits kind r = amount-fits r && (key-fits r && octets-fit kind r)
+unfoldable pub record_fits : ℕ → Record → Bool
+record_fits kind r = amount_fits r && (key_fits r && octets_fit kind r)
 
 -- the record in 26 bytes
-abbrev pub record-of : List ℕ → Record
-record-of bytes = record { call = call-of (getD bytes 0 0); key = take 13 (drop 1 bytes); packets = number-at 4 bytes 14; octets = number-at 8 bytes 18 }
+abbrev pub record_of : List ℕ → Record
+record_of bytes = record { call = call_of (slice_index bytes 0); key = take 13 (drop 1 bytes); packets = number_at 4 bytes 14; octets = number_at 8 bytes 18 }
 
 -- the bytes of a record
-abbrev pub record-bytes : Record → List ℕ
-record-bytes r = code-of (r .call) ∷ (r .key ++ (bytes-of 4 (r .packets) ++ bytes-of 8 (r .octets)))
+abbrev pub record_bytes : Record → List ℕ
+record_bytes r = code_of r.call ∷ (r.key ++ (bytes_of 4 r.packets ++ bytes_of 8 r.octets))
 
 -- what the types of the fields let a record hold
-abbrev pub Within-types : Record → Type 0
-Within-types r = (length (r .key) ≡ 13) × (r .packets < 2 ^ 32) × (r .octets < 2 ^ 64)
+abbrev pub WithinTypes : Record → Type 0
+WithinTypes r = (length r.key ≡ 13) × (r.packets < 2 ^ 32) × (r.octets < 2 ^ 64)

@@ -1,17 +1,11 @@
 -- Bytes that are zero, and the first that is not. Assumes nothing.
-use mathlib.Core.List.{List, [], _∷_}
-use mathlib.Core.Bool.{Bool, cond, not}
-use Prim.Native.Nat.{ℕ, suc}
-use lib.Dec.{eqb}
-use Rattle·std.specs.Options.{isSome}
-use Rattle·std.specs.declared.option.Option.{Option}
-use Rattle·std.specs.declared.option.Option.the-variants.{Some, None}
+use Rattle.std.specs.Prelude.{ℕ, suc, Bool, cond, not, List, [], ◌∷◌, is_some, Some, None, Option, ◌==◌}
 
 -- the place, counted from i, of the first byte that is not zero
-abbrev pub first-nonzero : ℕ → List ℕ → Option ℕ
-first-nonzero i [] = None
-first-nonzero i (b ∷ bs) = cond (eqb b 0) (first-nonzero (suc i) bs) (Some i)
+abbrev pub first_nonzero : ℕ → List ℕ → Option ℕ
+first_nonzero i [] = None
+first_nonzero i (b ∷ bs) = cond (b == 0) (first_nonzero (suc i) bs) (Some i)
 
 -- whether there is none
-abbrev pub all-zero : List ℕ → Bool
-all-zero bytes = not (isSome (first-nonzero 0 bytes))
+abbrev pub all_zero : List ℕ → Bool
+all_zero bytes = not (is_some (first_nonzero 0 bytes))

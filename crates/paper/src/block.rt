@@ -1,20 +1,15 @@
 // The checks of one block of a paper.
-ghost use mathlib.Core.Path.{_≡_};
-ghost use Prim.Native.Nat.{_+_, _*_, _≤_, _<_};
-ghost use lib.ListN.{length, getD, drop};
-ghost use Rattle·blocks.specs.Pieces.{pieces};
-ghost use Rattle·paper·specs.Checks.{block-checked, count-fits, front-fits, part-fits, record-at, records-checked, zeros-checked};
+ghost use Rattle.std.specs.Prelude.{◌≡◌, ◌+◌, ◌*◌, ◌<◌, ◌≤◌, length, drop, slice_index};
+ghost use Rattle.blocks.specs.Pieces.{pieces};
+ghost use Rattle.paper.specs.Checks.{block_checked, count_fits, front_fits, part_fits, record_at, records_checked, zeros_checked};
+
 use crate::header::Header;
-use crate::layout::FRONT;
-use crate::layout::FULL;
-use crate::layout::RECORD;
+use crate::layout::{FRONT, FULL, RECORD};
 use crate::record::Record;
 use crate::zeros::first_nonzero;
 use blocks::block::BODY;
 use blocks::checksum::checksum_holds;
-use blocks::fault::BlockFault;
-use blocks::fault::BlockFromRecord;
-use blocks::fault::RecordFault;
+use blocks::fault::{BlockFault, RecordFault};
 
 // The records of a full block, as a block counts them.
 const FULL_COUNT: u8 = FULL as u8;
@@ -24,7 +19,7 @@ const RECORDS_END: usize = FRONT + RECORD * FULL;
 
 // Whether a block has as many records as it must, by whether it is the last.
 fn count_fits(last: bool, count: u8) -> bool
-    ensures { λ r. ⌜ r ≡ count-fits last count ⌝ }
+    ensures { result ≡ count_fits last count }
 {
     if last {
         count >= 1 && count <= FULL_COUNT
@@ -35,8 +30,8 @@ fn count_fits(last: bool, count: u8) -> bool
 
 // Whether the header fits and is the first block's, and the count and the place are right.
 fn front_fits(block: &[u8], first: Header, place: u8, last: bool) -> bool
-    requires { ⌜ length (now block) ≡ 512 ⌝ }
-    ensures { λ r. ⌜ r ≡ front-fits first place last (now (block .entry)) ⌝ }
+    requires { length block.now ≡ 512 }
+    ensures { result ≡ front_fits first place last block.now }
 {
     let header = Header::read(block);
     header.fits() && header.is_same(first) && count_fits(last, block[6]) && block[7] == place
@@ -44,16 +39,16 @@ fn front_fits(block: &[u8], first: Header, place: u8, last: bool) -> bool
 
 // Whether 26 bytes are a record that a paper of this kind may have.
 fn part_fits(part: &[u8], kind: u8) -> bool
-    requires { ⌜ length (now part) ≡ 26 ⌝ }
-    ensures { λ r. ⌜ r ≡ part-fits kind (now (part .entry)) ⌝ }
+    requires { length part.now ≡ 26 }
+    ensures { result ≡ part_fits kind part.now }
 {
     part[0] >= 1 && part[0] <= 6 && Record::read(part).fits(kind)
 }
 
 // Checks the records that the block counts, from the first.
 fn check_records(block: &[u8], place: u8) -> Result<(), RecordFault>
-    requires { ⌜ length (now block) ≡ 512 ⌝ ∗ ⌜ getD (now block) 6 0 ≤ 19 ⌝ }
-    ensures { λ r. ⌜ r ≡ records-checked (getD (now (block .entry)) 5 0) place 0 (pieces 26 (getD (now (block .entry)) 6 0) (drop 8 (now (block .entry)))) ⌝ }
+    requires { (length block.now ≡ 512) × (slice_index block.now 6 ≤ 19) }
+    ensures { result ≡ records_checked (slice_index block.now 5) place 0 (pieces 26 (slice_index block.now 6) (drop 8 block.now)) }
 {
     let kind = block[5];
     let count = block[6];
@@ -71,8 +66,8 @@ fn check_records(block: &[u8], place: u8) -> Result<(), RecordFault>
 
 // The place from 1 of the record in which a byte lies, or 0 behind the last.
 fn record_at(byte: usize) -> u8
-    requires { ⌜ byte < 504 ⌝ }
-    ensures { λ r. ⌜ r ≡ record-at byte ⌝ }
+    requires { byte < 504 }
+    ensures { result ≡ record_at byte }
 {
     if byte < RECORDS_END {
         (byte.saturating_sub(FRONT) / RECORD + 1) as u8
@@ -83,8 +78,8 @@ fn record_at(byte: usize) -> u8
 
 // Checks that the bytes behind the records, up to the checksum, are zero.
 fn check_zeros(block: &[u8], place: u8) -> Result<(), RecordFault>
-    requires { ⌜ length (now block) ≡ 512 ⌝ ∗ ⌜ getD (now block) 6 0 ≤ 19 ⌝ }
-    ensures { λ r. ⌜ r ≡ zeros-checked place (8 + 26 * getD (now (block .entry)) 6 0) (now (block .entry)) ⌝ }
+    requires { (length block.now ≡ 512) × (slice_index block.now 6 ≤ 19) }
+    ensures { result ≡ zeros_checked place (8 + 26 * slice_index block.now 6) block.now }
 {
     let from = FRONT + RECORD * usize::from(block[6]);
     match first_nonzero(&block[from..BODY]) {
@@ -103,8 +98,8 @@ pub(crate) fn check_block(
     place: u8,
     last: bool,
 ) -> Result<(), BlockFault>
-    requires { ⌜ length (now block) ≡ 512 ⌝ }
-    ensures { λ r. ⌜ r ≡ block-checked first place last (now (block .entry)) ⌝ }
+    requires { length block.now ≡ 512 }
+    ensures { result ≡ block_checked first place last block.now }
 {
     if !checksum_holds(block) {
         return Err(BlockFault::Checksum { block: place });

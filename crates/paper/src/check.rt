@@ -1,18 +1,17 @@
 // The check of a whole paper.
-ghost use mathlib.Core.Path.{_≡_};
-ghost use Rattle·paper·specs.Checks.{paper-checked};
-ghost use Rattle·paper·specs.Writing.{Written-back};
+ghost use Rattle.std.specs.Prelude.{◌≡◌};
+ghost use Rattle.paper.specs.Checks.{paper_checked};
+ghost use Rattle.paper.specs.Writing.{WritesBack};
+
 use crate::block::check_block;
 use crate::fault::PaperFault;
-use crate::fault::PaperFromBlock;
 use crate::header::Header;
-use blocks::block::BLOCK;
-use blocks::block::count_blocks;
+use blocks::block::{BLOCK, count_blocks};
 
 // The paper's header, or its first fault. A sound paper is the very bytes that are written of its header and its records.
 pub fn check_paper(paper: &[u8]) -> Result<Header, PaperFault>
-    ensures answer { λ r. ⌜ r ≡ paper-checked (now (paper .entry)) ⌝ }
-    ensures written_back { λ r. ⌜ Written-back (now (paper .entry)) r ⌝ }
+    ensures answer { result ≡ paper_checked paper.now }
+    ensures written_back { WritesBack paper.now result }
 {
     let Some(blocks) = count_blocks(paper) else {
         return Err(PaperFault::Length);

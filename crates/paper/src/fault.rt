@@ -1,10 +1,8 @@
-ghost use mathlib.Core.Path.{_≡_};
-ghost use Rattle·paper·specs.declared.fault.PaperFault.the-variants.{InBlock};
-ghost use Rattle·paper·specs.Faults.{figures-of};
+ghost use Rattle.std.specs.Prelude.{◌≡◌};
+ghost use Rattle.paper.specs.declared.fault.PaperFault.TheVariants.{InBlock};
+ghost use Rattle.paper.specs.Faults.{figures_of};
+
 use blocks::fault::BlockFault;
-use blocks::fault::BlockFaultDebug;
-use blocks::fault::BlockFaultEq;
-use blocks::fault::BlockFaultPartialEq;
 
 // Why a paper is refused.
 #[derive(Clone, Copy, PartialEq, Eq, Debug)]
@@ -18,7 +16,7 @@ pub enum PaperFault {
 impl PaperFault {
     // The fault's number, the block that it is found in, from 0, and the record, from 1, or 0 where none is meant.
     pub fn figures(self) -> (u8, u8, u8)
-        ensures { λ r. ⌜ r ≡ figures-of self ⌝ }
+        ensures { result ≡ figures_of self }
     {
         match self {
             PaperFault::Length => (13, 0, 0),
@@ -27,8 +25,8 @@ impl PaperFault {
     }
 }
 
-pub impl From<BlockFault> for PaperFault as PaperFromBlock {
-    ghost converts = { λ e r. r ≡ InBlock e };
+impl From<BlockFault> for PaperFault {
+    ghost from_gives = { λ e r. r ≡ InBlock e };
 
     fn from(e: BlockFault) -> PaperFault {
         PaperFault::InBlock(e)

@@ -1,14 +1,9 @@
-ghost use mathlib.Core.Path.{_≡_};
-ghost use Prim.Native.Nat.{_≤_};
-ghost use lib.ListN.{length};
-ghost use Rattle·paper·specs.Headers.{header-of, header-fits, is-rule, is-kind, same-header, shape-fits};
+ghost use Rattle.std.specs.Prelude.{◌≡◌, ◌≤◌, length};
+ghost use Rattle.paper.specs.Headers.{header_of, header_fits, is_rule, is_kind, same_header, shape_fits};
+
 use numbers::little_endian::read_u16;
-use rules::fnv::FnvRule;
-use rules::plain_number::PlainNumberRule;
 use rules::rule::Rule;
-use tallies::replicas::ReplicasTally;
 use tallies::tally::Tally;
-use tallies::traffic::TrafficTally;
 
 // What a paper says of its table: buckets, rows in use at the start, most rows, and the numbers of its rule and its kind.
 // It may break the limits of a header.
@@ -24,8 +19,8 @@ pub struct Header {
 impl Header {
     // The header in the first bytes.
     pub(crate) fn read(bytes: &[u8]) -> Header
-        requires { ⌜ 6 ≤ length (now bytes) ⌝ }
-        ensures { λ r. ⌜ r ≡ header-of (now (bytes .entry)) ⌝ }
+        requires { 6 ≤ length bytes.now }
+        ensures { result ≡ header_of bytes.now }
     {
         Header {
             buckets: read_u16(bytes, 0),
@@ -38,21 +33,21 @@ impl Header {
 
     // Whether the fields keep their limits, and the rule and the kind are known.
     pub fn fits(self) -> bool
-        ensures { λ r. ⌜ r ≡ header-fits self ⌝ }
+        ensures { result ≡ header_fits self }
     {
         self.shape_fits() && is_rule(self.rule) && is_kind(self.kind)
     }
 
     // Whether the two headers are equal.
     pub(crate) fn is_same(self, other: Header) -> bool
-        ensures { λ r. ⌜ r ≡ same-header self other ⌝ }
+        ensures { result ≡ same_header self other }
     {
         self == other
     }
 
     // Whether buckets, rows and most rows keep a paper's limits.
     fn shape_fits(self) -> bool
-        ensures { λ r. ⌜ r ≡ shape-fits self ⌝ }
+        ensures { result ≡ shape_fits self }
     {
         self.buckets >= 2
             && self.buckets <= 256
@@ -64,14 +59,16 @@ impl Header {
 
 // Whether the number names a rule.
 fn is_rule(number: u8) -> bool
-    ensures { λ r. ⌜ r ≡ is-rule number ⌝ }
+    ensures { result ≡ is_rule number }
 {
-    number == PlainNumberRule::rule_number() || number == FnvRule::rule_number()
+    number == <rules::plain_number::PlainNumber as Rule>::rule_number()
+        || number == <rules::fnv::Fnv as Rule>::rule_number()
 }
 
 // Whether the number names a kind of tally.
 fn is_kind(number: u8) -> bool
-    ensures { λ r. ⌜ r ≡ is-kind number ⌝ }
+    ensures { result ≡ is_kind number }
 {
-    number == ReplicasTally::kind_number() || number == TrafficTally::kind_number()
+    number == <tallies::replicas::Replicas as Tally>::kind_number()
+        || number == <tallies::traffic::Traffic as Tally>::kind_number()
 }

@@ -1,4 +1,6 @@
 // Papers: a table's shape and the calls on it, in blocks of bytes.
+#![tactic(auto)]
+
 mod block;
 pub mod check;
 pub mod fault;

@@ -1,10 +1,8 @@
-ghost use mathlib.Core.Path.{_≡_};
-ghost use lib.ListN.{length};
-ghost use Rattle·paper·specs.Records.{code-of, call-of, takes-amount, takes-key, amount-fits, key-fits, octets-fit, record-of, record-fits, Within-types};
+ghost use Rattle.std.specs.Prelude.{◌≡◌, length};
+ghost use Rattle.paper.specs.Records.{code_of, call_of, takes_amount, takes_key, amount_fits, key_fits, octets_fit, record_of, record_fits, WithinTypes};
+
 use crate::zeros::first_nonzero;
-use numbers::little_endian::read_u32;
-use numbers::little_endian::read_u64;
-use tallies::replicas::ReplicasTally;
+use numbers::little_endian::{read_u32, read_u64};
 use tallies::tally::Tally;
 
 // What a record asks of the table.
@@ -21,7 +19,7 @@ pub enum Call {
 impl Call {
     // The call of a code from 1 to 6.
     fn of(code: u8) -> Call
-        ensures { λ r. ⌜ r ≡ call-of code ⌝ }
+        ensures { result ≡ call_of code }
     {
         match code {
             1 => Call::Post,
@@ -35,7 +33,7 @@ impl Call {
 
     // The byte that names the call in a paper.
     pub fn code(self) -> u8
-        ensures { λ r. ⌜ r ≡ code-of self ⌝ }
+        ensures { result ≡ code_of self }
     {
         match self {
             Call::Post => 1,
@@ -49,7 +47,7 @@ impl Call {
 
     // Whether the call has packets and octets.
     fn takes_amount(self) -> bool
-        ensures { λ r. ⌜ r ≡ takes-amount self ⌝ }
+        ensures { result ≡ takes_amount self }
     {
         match self {
             Call::Post | Call::Reverse => true,
@@ -59,7 +57,7 @@ impl Call {
 
     // Whether the call has a key.
     fn takes_key(self) -> bool
-        ensures { λ r. ⌜ r ≡ takes-key self ⌝ }
+        ensures { result ≡ takes_key self }
     {
         match self {
             Call::Post | Call::Reverse | Call::Erase | Call::LookUp => true,
@@ -80,8 +78,8 @@ pub struct Record {
 impl Record {
     // The record in 26 bytes whose first names a call.
     pub(crate) fn read(part: &[u8]) -> Record
-        requires { ⌜ length (now part) ≡ 26 ⌝ }
-        ensures { λ r. ⌜ r ≡ record-of (now (part .entry)) ⌝ }
+        requires { length part.now ≡ 26 }
+        ensures { result ≡ record_of part.now }
     {
         let mut key = [0; 13];
         key.copy_from_slice(&part[1..14]);
@@ -95,29 +93,29 @@ impl Record {
 
     // Whether packets and octets are zero where the call takes none.
     fn amount_fits(self) -> bool
-        ensures { λ r. ⌜ r ≡ amount-fits self ⌝ }
+        ensures { result ≡ amount_fits self }
     {
         self.call.takes_amount() || self.packets == 0 && self.octets == 0
     }
 
     // Whether the key is zero where the call takes none.
     fn key_fits(self) -> bool
-        ensures { λ r. ⌜ r ≡ key-fits self ⌝ }
+        ensures { result ≡ key_fits self }
     {
         self.call.takes_key() || first_nonzero(&self.key).is_none()
     }
 
     // Whether there are no octets in a paper of replicas.
     fn octets_fit(self, kind: u8) -> bool
-        ensures { λ r. ⌜ r ≡ octets-fit kind self ⌝ }
+        ensures { result ≡ octets_fit kind self }
     {
-        kind != ReplicasTally::kind_number() || self.octets == 0
+        kind != <tallies::replicas::Replicas as Tally>::kind_number() || self.octets == 0
     }
 
     // Whether what the call does not take is zero, and a paper of replicas has no octets.
     pub fn fits(self, kind: u8) -> bool
-        ensures value { λ r. ⌜ r ≡ record-fits kind self ⌝ }
-        ensures within { λ _. ⌜ Within-types self ⌝ }
+        ensures value { result ≡ record_fits kind self }
+        ensures within { WithinTypes self }
     {
         self.amount_fits() && self.key_fits() && self.octets_fit(kind)
     }

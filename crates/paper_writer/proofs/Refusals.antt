@@ -1,49 +1,43 @@
 -- The steps of the checks before a paper is written, and what they tell. Assumes nothing.
-use mathlib.Core.Path.{_≡_, ap, _∙_}
-use mathlib.Core.Bool.{Bool, true, cond}
-use mathlib.Core.List.{List, [], _∷_}
-use Prim.Native.Nat.{ℕ, _+_, _*_, _/_, _%_, _≤_, _<_}
-use native.Mathlib.Omega.{arith}
-use lib.ListN.{length, drop, getD}
-use Rattle·std.specs.shelf.Lists.{All}
-use Rattle·std.specs.declared.result.Result.the-variants.{Ok, Err}
-use Rattle·std.proofs.shelf.Lists.{at-drop-more, at-drop-all}
-use Rattle·std.proofs.shelf.Ways.{tells}
-use Rattle·blocks.specs.Faults.{as-block-fault, then}
-use Rattle·blocks.proofs.Tells.{cond-tells, then-tells}
-use Rattle·paper.specs.Headers.{header-fits}
-use Rattle·paper.specs.Records.{Within-types, record-fits}
-use Rattle·paper.specs.Writing.{blocks-for}
-use Rattle·paper.specs.declared.header.Header.{Header}
-use Rattle·paper.specs.declared.fault.PaperFault.the-variants.{InBlock, Length}
-use Rattle·paper.specs.declared.«record».Record.{Record}
-use Rattle·paper_writer·specs.Refusing.{contents-checked, records-refused, room-fits, write-checked}
-use Rattle·paper_writer·proofs.ReadBack.{Fit}
+use Rattle.std.proofs.Common.{◌≡◌, ℕ, ◌+◌, ◌*◌, ◌/◌, ◌%◌, ◌<◌, ◌≤◌, Bool, true, cond, List, [], ◌∷◌, length, get_or, drop, Ok, Err, ap, ◌∙◌, arith}
+use Rattle.std.specs.List.{AllByRecursion}
+use Rattle.std.proofs.lemmas.List.{at_drop_more, at_drop_all}
+use Rattle.std.proofs.lemmas.Bool.Decides.{nat_tests}
+use Rattle.blocks.specs.Faults.{as_block_fault, then}
+use Rattle.blocks.proofs.Tells.{cond_tells, then_tells}
+use Rattle.paper.specs.Headers.{header_fits}
+use Rattle.paper.specs.Records.{WithinTypes, record_fits}
+use Rattle.paper.specs.Writing.{blocks_for}
+use Rattle.paper.specs.declared.header.Header.{Header}
+use Rattle.paper.specs.declared.fault.PaperFault.TheVariants.{InBlock, Length}
+use Rattle.paper.specs.declared.«record».Record.{Record}
+use Rattle.paper_writer.specs.Refusing.{contents_checked, records_refused, room_fits, write_checked}
+use Rattle.paper_writer.proofs.ReadBack.{Fit}
 
-pub records-step : (kind k : ℕ) (records : List Record) (d : Record) (fits : Bool) → k < length records → record-fits kind (getD records k d) ≡ fits →
-    records-refused kind k (drop k records) ≡ cond fits (records-refused kind (k + 1) (drop (k + 1) records)) (Err (record { block = k / 19; «record» = k % 19 + 1 }))
-records-step kind k records d fits inside is =
-    at-drop-more (records-refused kind k) records k d inside
-    ∙ ap (λ t. cond t (records-refused kind (k + 1) (drop (k + 1) records)) (Err (record { block = k / 19; «record» = k % 19 + 1 }))) is
+pub records_step : (kind k : ℕ) (records : List Record) (d : Record) (fits : Bool) → k < length records → record_fits kind (get_or records k d) ≡ fits →
+    records_refused kind k (drop k records) ≡ cond fits (records_refused kind (k + 1) (drop (k + 1) records)) (Err (record { block = k / 19; «record» = k % 19 + 1 }))
+records_step kind k records d fits inside is =
+    at_drop_more (records_refused kind k) records k d inside
+    ∙ ap (λ t. cond t (records_refused kind (k + 1) (drop (k + 1) records)) (Err (record { block = k / 19; «record» = k % 19 + 1 }))) is
 
-pub records-none : (kind k : ℕ) (records : List Record) → length records ≤ k → records-refused kind k (drop k records) ≡ Ok tt
-records-none kind k records past = at-drop-all (records-refused kind k) records k past
+pub records_none : (kind k : ℕ) (records : List Record) → length records ≤ k → records_refused kind k (drop k records) ≡ Ok tt
+records_none kind k records past = at_drop_all (records_refused kind k) records k past
 
-pub room-checked : (room : ℕ) (h : Header) (records : List Record) → 1 ≤ length records → length records ≤ 1900 → room ≡ 512 * blocks-for (length records) →
-    write-checked room h records ≡ then InBlock (contents-checked h records) (Ok tt)
-unfolding write-checked
-room-checked room h records some most is =
-    let fits : room-fits room (length records) ≡ true = grind (arith, tells) in
-    ap (λ t. cond t (then InBlock (contents-checked h records) (Ok tt)) (Err Length)) fits
+pub room_checked : (room : ℕ) (h : Header) (records : List Record) → 1 ≤ length records → length records ≤ 1900 → room ≡ 512 * blocks_for (length records) →
+    write_checked room h records ≡ then InBlock (contents_checked h records) (Ok tt)
+unfolding write_checked
+room_checked room h records some most is =
+    let fits : room_fits room (length records) ≡ true = grind (arith, nat_tests) in
+    ap (λ t. cond t (then InBlock (contents_checked h records) (Ok tt)) (Err Length)) fits
 
-all-fit : (kind k : ℕ) (records : List Record) → All Within-types records → records-refused kind k records ≡ Ok tt → All (Fit kind) records
-all-fit kind k [] held is = tt
-all-fit kind k (r ∷ rs) held is =
-    let p = cond-tells (record-fits kind r) _ _ tt is in
-    ((held .0, p .0), all-fit kind (k + 1) rs (held .1) (p .1))
+all_fit : (kind k : ℕ) (records : List Record) → AllByRecursion WithinTypes records → records_refused kind k records ≡ Ok tt → AllByRecursion (Fit kind) records
+all_fit kind k [] held is = tt
+all_fit kind k (r ∷ rs) held is =
+    let p = cond_tells (record_fits kind r) _ _ tt is in
+    ((held.0, p.0), all_fit kind (k + 1) rs held.1 p.1)
 
-pub contents-tell : (h : Header) (records : List Record) (t : Unit {0}) → All Within-types records → contents-checked h records ≡ Ok t → (header-fits h ≡ true) × All (Fit (h .kind)) records
-contents-tell h records t held is =
-    let p = cond-tells (header-fits h) _ _ t is in
-    let q = then-tells as-block-fault (records-refused (h .kind) 0 records) (Ok tt) t (p .1) in
-    (p .0, all-fit (h .kind) 0 records held (q .0 .1))
+pub contents_tell : (h : Header) (records : List Record) (t : Unit {0}) → AllByRecursion WithinTypes records → contents_checked h records ≡ Ok t → (header_fits h ≡ true) × AllByRecursion (Fit h.kind) records
+contents_tell h records t held is =
+    let p = cond_tells (header_fits h) _ _ t is in
+    let q = then_tells as_block_fault (records_refused h.kind 0 records) (Ok tt) t p.1 in
+    (p.0, all_fit h.kind 0 records held q.0.1)

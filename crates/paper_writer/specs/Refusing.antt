@@ -1,43 +1,36 @@
 -- What writing a paper answers, before a byte is written. Assumes nothing.
-use mathlib.Core.List.{List, [], _∷_}
-use mathlib.Core.Bool.{Bool, cond, _&&_}
-use mathlib.Core.Path.{_≡_}
-use Prim.Native.Nat.{ℕ, _+_, _*_, _/_, _%_}
-use lib.Dec.{leb, eqb}
-use lib.ListN.{length}
-use Rattle·std.specs.declared.result.Result.{Result}
-use Rattle·std.specs.declared.result.Result.the-variants.{Ok, Err}
-use Rattle·blocks.specs.Faults.{as-block-fault, then}
-use Rattle·blocks.specs.declared.fault.RecordFault.{RecordFault}
-use Rattle·blocks.specs.declared.fault.BlockFault.{BlockFault}
-use Rattle·blocks.specs.declared.fault.BlockFault.the-variants as fault
-use Rattle·paper.specs.Checks.{paper-checked}
-use Rattle·paper.specs.Headers.{header-fits}
-use Rattle·paper.specs.Reading.{paper-records}
-use Rattle·paper.specs.Records.{record-fits}
-use Rattle·paper.specs.Writing.{blocks-for}
-use Rattle·paper.specs.declared.header.Header.{Header}
-use Rattle·paper.specs.declared.«record».Record.{Record}
-use Rattle·paper.specs.declared.fault.PaperFault.{PaperFault}
-use Rattle·paper.specs.declared.fault.PaperFault.the-variants.{Length, InBlock}
+use Rattle.std.specs.Prelude.{◌≡◌, ℕ, ◌+◌, ◌*◌, ◌/◌, ◌%◌, Bool, cond, ◌&&◌, List, [], ◌∷◌, length, Ok, Err, Result, ◌==◌, nat_le}
+use Rattle.blocks.specs.Faults.{as_block_fault, then}
+use Rattle.blocks.specs.declared.fault.RecordFault.{RecordFault}
+use Rattle.blocks.specs.declared.fault.BlockFault.{BlockFault}
+use Rattle.blocks.specs.declared.fault.BlockFault.TheVariants as fault
+use Rattle.paper.specs.Checks.{paper_checked}
+use Rattle.paper.specs.Headers.{header_fits}
+use Rattle.paper.specs.Reading.{paper_records}
+use Rattle.paper.specs.Records.{record_fits}
+use Rattle.paper.specs.Writing.{blocks_for}
+use Rattle.paper.specs.declared.header.Header.{Header}
+use Rattle.paper.specs.declared.«record».Record.{Record}
+use Rattle.paper.specs.declared.fault.PaperFault.{PaperFault}
+use Rattle.paper.specs.declared.fault.PaperFault.TheVariants.{Length, InBlock}
 
 -- the answer for records counted from k, 19 to a block: Ok, or the first that is unfit
-abbrev pub records-refused : ℕ → ℕ → List Record → Result (Unit {0}) RecordFault
-records-refused kind k [] = Ok tt
-records-refused kind k (r ∷ rs) = cond (record-fits kind r) (records-refused kind (k + 1) rs) (Err (record { block = k / 19; «record» = k % 19 + 1 }))
+abbrev pub records_refused : ℕ → ℕ → List Record → Result (Unit {0}) RecordFault
+records_refused kind k [] = Ok tt
+records_refused kind k (r ∷ rs) = cond (record_fits kind r) (records_refused kind (k + 1) rs) (Err (record { block = k / 19; «record» = k % 19 + 1 }))
 
 -- the answer for a header and its records
-abbrev pub contents-checked : Header → List Record → Result (Unit {0}) BlockFault
-contents-checked h records = cond (header-fits h) (then as-block-fault (records-refused (h .kind) 0 records) (Ok tt)) (Err (fault.Header 0))
+abbrev pub contents_checked : Header → List Record → Result (Unit {0}) BlockFault
+contents_checked h records = cond (header_fits h) (then as_block_fault (records_refused h.kind 0 records) (Ok tt)) (Err (fault.Header 0))
 
 -- from one to 1,900 records, and a buffer of just the blocks that they need
-abbrev pub room-fits : ℕ → ℕ → Bool
-room-fits room n = leb 1 n && (leb n 1900 && eqb room (512 * blocks-for n))
+abbrev pub room_fits : ℕ → ℕ → Bool
+room_fits room n = nat_le 1 n && (nat_le n 1900 && room == 512 * blocks_for n)
 
 -- the answer to writing them into so many bytes
-unfoldable pub write-checked : ℕ → Header → List Record → Result (Unit {0}) PaperFault
-write-checked room h records = cond (room-fits room (length records)) (then InBlock (contents-checked h records) (Ok tt)) (Err Length)
+unfoldable pub write_checked : ℕ → Header → List Record → Result (Unit {0}) PaperFault
+write_checked room h records = cond (room_fits room (length records)) (then InBlock (contents_checked h records) (Ok tt)) (Err Length)
 
 -- what is read of a paper
-abbrev pub Read-back : List ℕ → Header → List Record → Type 0
-Read-back paper h records = (paper-checked paper ≡ Ok h) × (paper-records paper ≡ records)
+abbrev pub ReadsBack : List ℕ → Header → List Record → Type 0
+ReadsBack paper h records = (paper_checked paper ≡ Ok h) × (paper_records paper ≡ records)

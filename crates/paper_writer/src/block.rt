@@ -1,43 +1,36 @@
 // One block of a paper, written into a lent part of the buffer.
-ghost use mathlib.Core.Path.{_≡_};
-ghost use mathlib.Core.List.{_++_, _∷_, []};
-ghost use Prim.Native.Nat.{_≤_};
-ghost use lib.ListN.{length};
-ghost use Rattle·paper.specs.Headers.{header-bytes};
-ghost use Rattle·paper.specs.Records.{record-bytes};
-ghost use Rattle·paper.specs.Writing.{block-bytes};
+ghost use Rattle.std.specs.Prelude.{◌≡◌, ◌≤◌, [], ◌∷◌, ◌++◌, length};
+ghost use Rattle.paper.specs.Headers.{header_bytes};
+ghost use Rattle.paper.specs.Records.{record_bytes};
+ghost use Rattle.paper.specs.Writing.{block_bytes};
+
 use blocks::block::BODY;
 use blocks::checksum::write_checksum;
-use numbers::little_endian::write_u16;
-use numbers::little_endian::write_u32;
-use numbers::little_endian::write_u64;
+use numbers::little_endian::{write_u16, write_u32, write_u64};
 use paper::header::Header;
-use paper::layout::FRONT;
-use paper::layout::RECORD;
+use paper::layout::{FRONT, RECORD};
 use paper::record::Record;
 
 // Writes bytes 0 to 7 of a block.
 fn write_front(part: &mut [u8], header: Header, count: u8, place: u8)
-    requires { ⌜ length (now part) ≡ 8 ⌝ }
-    ensures { λ _. ⌜ now (part .exit) ≡ header-bytes header ++ (count ∷ place ∷ []) ⌝ }
+    requires { length part.old ≡ 8 }
+    ensures { part.new ≡ header_bytes header ++ (count ∷ place ∷ []) }
 {
     write_u16(part, 0, header.buckets);
-    part[2..FRONT].copy_from_slice(
-        &[
-            header.rows,
-            header.most,
-            header.rule,
-            header.kind,
-            count,
-            place,
-        ],
-    );
+    part[2..FRONT].copy_from_slice(&[
+        header.rows,
+        header.most,
+        header.rule,
+        header.kind,
+        count,
+        place,
+    ]);
 }
 
 // Writes the 26 bytes of a record.
 fn write_record(part: &mut [u8], entry: &Record)
-    requires { ⌜ length (now part) ≡ 26 ⌝ }
-    ensures { λ _. ⌜ now (part .exit) ≡ record-bytes (now (entry .entry)) ⌝ }
+    requires { length part.old ≡ 26 }
+    ensures { part.new ≡ record_bytes entry.now }
 {
     part[0] = entry.call.code();
     part[1..14].copy_from_slice(&entry.key);
@@ -47,8 +40,8 @@ fn write_record(part: &mut [u8], entry: &Record)
 
 // Writes all bytes of a block.
 pub(crate) fn write_block(block: &mut [u8], header: Header, place: u8, records: &[Record])
-    requires { ⌜ length (now block) ≡ 512 ⌝ ∗ ⌜ length (now records) ≤ 19 ⌝ }
-    ensures { λ _. ⌜ now (block .exit) ≡ block-bytes header place (now (records .entry)) ⌝ }
+    requires { (length block.old ≡ 512) × (length records.now ≤ 19) }
+    ensures { block.new ≡ block_bytes header place records.now }
 {
     write_front(&mut block[0..FRONT], header, records.len() as u8, place);
     for (i, record) in records.iter().enumerate() {

@@ -1,24 +1,19 @@
 // The checks of a header and records to be written.
-ghost use mathlib.Core.Path.{_≡_};
-ghost use mathlib.Core.Bool.{true};
-ghost use Prim.Native.Nat.{_≤_};
-ghost use lib.ListN.{length};
-ghost use Rattle·std.specs.Results.{isOk};
-ghost use Rattle·std.specs.shelf.Lists.{All};
-ghost use Rattle·paper.specs.Records.{Within-types};
-ghost use Rattle·paper_writer·specs.Refusing.{contents-checked, records-refused};
-use blocks::fault::BlockFault;
-use blocks::fault::BlockFromRecord;
-use blocks::fault::RecordFault;
+ghost use Rattle.std.specs.Prelude.{◌≡◌, ◌≤◌, true, length, is_ok};
+ghost use Rattle.std.specs.List.{AllByRecursion};
+ghost use Rattle.paper.specs.Records.{WithinTypes};
+ghost use Rattle.paper_writer.specs.Refusing.{contents_checked, records_refused};
+
+use blocks::fault::{BlockFault, RecordFault};
 use paper::header::Header;
 use paper::layout::FULL;
 use paper::record::Record;
 
 // Names the first record that is unfit, by its block and its place in it.
 fn refuse_records(records: &[Record], kind: u8) -> Result<(), RecordFault>
-    requires { ⌜ length (now records) ≤ 1900 ⌝ }
-    ensures answer { λ r. ⌜ r ≡ records-refused kind 0 (now (records .entry)) ⌝ }
-    ensures within { λ r. ⌜ (isOk r ≡ true → All Within-types (now (records .entry))) ⌝ }
+    requires { length records.now ≤ 1900 }
+    ensures answer { result ≡ records_refused kind 0 records.now }
+    ensures within { is_ok result ≡ true → AllByRecursion WithinTypes records.now }
 {
     for (k, record) in records.iter().enumerate() {
         if !record.fits(kind) {
@@ -33,9 +28,9 @@ fn refuse_records(records: &[Record], kind: u8) -> Result<(), RecordFault>
 
 // Checks the header, then the records.
 pub(crate) fn check_contents(header: Header, records: &[Record]) -> Result<(), BlockFault>
-    requires { ⌜ length (now records) ≤ 1900 ⌝ }
-    ensures answer { λ r. ⌜ r ≡ contents-checked header (now (records .entry)) ⌝ }
-    ensures within { λ r. ⌜ (isOk r ≡ true → All Within-types (now (records .entry))) ⌝ }
+    requires { length records.now ≤ 1900 }
+    ensures answer { result ≡ contents_checked header records.now }
+    ensures within { is_ok result ≡ true → AllByRecursion WithinTypes records.now }
 {
     if !header.fits() {
         return Err(BlockFault::Header { block: 0 });

@@ -1,24 +1,19 @@
-ghost use mathlib.Core.Path.{_≡_};
-ghost use mathlib.Core.Bool.{cond, true};
-ghost use Prim.Native.Nat.{_*_, _≤_};
-ghost use lib.ListN.{length};
-ghost use Rattle·std.specs.Results.{isOk};
-ghost use Rattle·paper.specs.Writing.{blocks-for, paper-bytes};
-ghost use Rattle·paper_writer·specs.Refusing.{Read-back, write-checked};
+ghost use Rattle.std.specs.Prelude.{◌≡◌, ◌*◌, ◌≤◌, true, length, is_ok, if◌then◌else◌};
+ghost use Rattle.paper.specs.Writing.{blocks_for, paper_bytes};
+ghost use Rattle.paper_writer.specs.Refusing.{ReadsBack, write_checked};
+
 use crate::block::write_block;
 use crate::check::check_contents;
 use blocks::block::BLOCK;
 use paper::fault::PaperFault;
-use paper::fault::PaperFromBlock;
 use paper::header::Header;
-use paper::layout::FULL;
-use paper::layout::MOST_RECORDS;
+use paper::layout::{FULL, MOST_RECORDS};
 use paper::record::Record;
 
 // Writes 19 records to a block, the rest into the last.
 fn write_blocks(buffer: &mut [u8], header: Header, records: &[Record])
-    requires { ⌜ length (now buffer) ≡ 512 * blocks-for (length (now records)) ⌝ ∗ ⌜ length (now records) ≤ 1900 ⌝ }
-    ensures { λ _. ⌜ now (buffer .exit) ≡ paper-bytes header (now (records .entry)) ⌝ }
+    requires { (length buffer.old ≡ 512 * blocks_for (length records.now)) × (length records.now ≤ 1900) }
+    ensures { buffer.new ≡ paper_bytes header records.now }
 {
     let blocks = (records.len() + (FULL - 1)) / FULL;
     for i in 0..blocks {
@@ -32,9 +27,9 @@ fn write_blocks(buffer: &mut [u8], header: Header, records: &[Record])
 // Fills the buffer with the paper, or names its first fault and leaves the buffer as it was.
 // What is written is found sound, and has the same header and the same records.
 pub fn write_paper(header: Header, records: &[Record], buffer: &mut [u8]) -> Result<(), PaperFault>
-    ensures answer { λ r. ⌜ r ≡ write-checked (length (now (buffer .entry))) header (now (records .entry)) ⌝ }
-    ensures bytes { λ r. ⌜ now (buffer .exit) ≡ cond (isOk r) (paper-bytes header (now (records .entry))) (now (buffer .entry)) ⌝ }
-    ensures read_back { λ r. ⌜ (isOk r ≡ true → Read-back (now (buffer .exit)) header (now (records .entry))) ⌝ }
+    ensures answer { result ≡ write_checked (length buffer.old) header records.now }
+    ensures bytes { buffer.new ≡ (if is_ok result then paper_bytes header records.now else buffer.old) }
+    ensures read_back { is_ok result ≡ true → ReadsBack buffer.new header records.now }
 {
     let count = records.len();
     if count == 0 || count > MOST_RECORDS || buffer.len() != BLOCK * ((count + (FULL - 1)) / FULL) {

@@ -1,40 +1,42 @@
 use blocks::block::count_blocks;
-use blocks::checksum::checksum_holds;
-use blocks::checksum::write_checksum;
+use blocks::checksum::{checksum_holds, write_checksum};
 use blocks::fault::BlockFault;
-use std::test::*;
 
 #[test]
-fn blocks_are_counted() -> Result<(), Fail> {
+fn blocks_are_counted(rt: HostRuntime) {
     let bytes = [0; 51712];
-    check_eq(count_blocks(&bytes[0..0]), None)?;
-    check_eq(count_blocks(&bytes[0..511]), None)?;
-    check_eq(count_blocks(&bytes[0..512]), Some(1))?;
-    check_eq(count_blocks(&bytes[0..513]), None)?;
-    check_eq(count_blocks(&bytes[0..51200]), Some(100))?;
-    check_eq(count_blocks(&bytes), None)
+    assert_eq!(rt; count_blocks(&bytes[0..0]), None);
+    assert_eq!(rt; count_blocks(&bytes[0..511]), None);
+    assert_eq!(rt; count_blocks(&bytes[0..512]), Some(1));
+    assert_eq!(rt; count_blocks(&bytes[0..513]), None);
+    assert_eq!(rt; count_blocks(&bytes[0..51200]), Some(100));
+    assert_eq!(rt; count_blocks(&bytes), None);
 }
 
 #[test]
-fn a_checksum_is_written_and_holds() -> Result<(), Fail> {
+fn a_checksum_is_written_and_holds(rt: HostRuntime) {
     let mut block = [0; 512];
-    check(!checksum_holds(&block))?;
+    assert!(rt; !checksum_holds(&block));
     write_checksum(&mut block);
-    check_eq(&block[504..512], &[133, 200, 138, 7, 151, 67, 1, 82])?;
-    check(checksum_holds(&block))?;
+    assert_eq!(rt;
+        &block[504..512],
+        [133, 200, 138, 7, 151, 67, 1, 82].as_slice()
+    );
+    assert!(rt; checksum_holds(&block));
     block[503] = 1;
-    check(!checksum_holds(&block))
+    assert!(rt; !checksum_holds(&block));
 }
 
 #[test]
-fn faults_have_their_figures() -> Result<(), Fail> {
-    check_eq(BlockFault::Checksum { block: 7 }.figures(), (14, 7, 0))?;
-    check_eq(BlockFault::Header { block: 99 }.figures(), (15, 99, 0))?;
-    check_eq(
+fn faults_have_their_figures(rt: HostRuntime) {
+    assert_eq!(rt; BlockFault::Checksum { block: 7 }.figures(), (14, 7, 0));
+    assert_eq!(rt; BlockFault::Header { block: 99 }.figures(), (15, 99, 0));
+    assert_eq!(rt;
         BlockFault::Record {
             block: 8,
             record: 19,
-        }.figures(),
-        (16, 8, 19),
-    )
+        }
+        .figures(),
+        (16, 8, 19)
+    );
 }

@@ -1,4 +1,6 @@
 // Tests of blocks, papers and the writer of papers on examples.
+#![tactic(auto)]
+
 #[cfg(test)]
 mod block_tests;
 #[cfg(test)]

@@ -1,55 +1,48 @@
 // Several faults at once: the first in the order of the checks is told.
-use crate::samples::SOUND;
-use crate::samples::TRAFFIC;
-use crate::samples::figures_of;
-use crate::samples::figures_of_writing;
-use crate::samples::mend;
-use crate::samples::post;
-use crate::samples::put;
-use std::test::*;
+use crate::samples::{SOUND, TRAFFIC, figures_of, figures_of_writing, mend, post, put};
 
 // From the last of the checks to the first, each fault comes before those that stand already.
 #[test]
-fn each_fault_before_the_later_ones() -> Result<(), Fail> {
+fn each_fault_before_the_later_ones(rt: HostRuntime) {
     let mut paper = [0; 1024];
-    check_eq(
+    assert_eq!(rt;
         figures_of_writing(TRAFFIC, &[post(1, 9); 21], &mut paper),
-        SOUND,
-    )?;
+        SOUND
+    );
     put(&mut paper, 1, 503, 1);
     mend(&mut paper, 1);
-    check_eq(figures_of(&paper), (16, 1, 0))?;
+    assert_eq!(rt; figures_of(&paper), (16, 1, 0));
     put(&mut paper, 1, 490, 1);
     mend(&mut paper, 1);
-    check_eq(figures_of(&paper), (16, 1, 19))?;
+    assert_eq!(rt; figures_of(&paper), (16, 1, 19));
     put(&mut paper, 1, 34, 9);
     mend(&mut paper, 1);
-    check_eq(figures_of(&paper), (16, 1, 2))?;
+    assert_eq!(rt; figures_of(&paper), (16, 1, 2));
     put(&mut paper, 1, 8, 9);
     mend(&mut paper, 1);
-    check_eq(figures_of(&paper), (16, 1, 1))?;
+    assert_eq!(rt; figures_of(&paper), (16, 1, 1));
     put(&mut paper, 1, 7, 9);
     mend(&mut paper, 1);
-    check_eq(figures_of(&paper), (15, 1, 0))?;
+    assert_eq!(rt; figures_of(&paper), (15, 1, 0));
     put(&mut paper, 1, 504, 0);
     put(&mut paper, 1, 505, 0);
-    check_eq(figures_of(&paper), (14, 1, 0))
+    assert_eq!(rt; figures_of(&paper), (14, 1, 0));
 }
 
 #[test]
-fn a_block_before_the_next() -> Result<(), Fail> {
+fn a_block_before_the_next(rt: HostRuntime) {
     let mut paper = [0; 1024];
-    check_eq(
+    assert_eq!(rt;
         figures_of_writing(TRAFFIC, &[post(1, 9); 21], &mut paper),
-        SOUND,
-    )?;
+        SOUND
+    );
     put(&mut paper, 1, 0, 9);
-    check_eq(figures_of(&paper), (14, 1, 0))?;
+    assert_eq!(rt; figures_of(&paper), (14, 1, 0));
     put(&mut paper, 0, 503, 1);
     mend(&mut paper, 0);
-    check_eq(figures_of(&paper), (16, 0, 0))?;
+    assert_eq!(rt; figures_of(&paper), (16, 0, 0));
     put(&mut paper, 0, 4, 0);
     mend(&mut paper, 0);
-    check_eq(figures_of(&paper), (15, 0, 0))?;
-    check_eq(figures_of(&paper[0..1023]), (13, 0, 0))
+    assert_eq!(rt; figures_of(&paper), (15, 0, 0));
+    assert_eq!(rt; figures_of(&paper[0..1023]), (13, 0, 0));
 }

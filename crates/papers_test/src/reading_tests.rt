@@ -1,15 +1,7 @@
-use crate::samples::LONGEST;
-use crate::samples::MOST_RECORDS;
-use crate::samples::SOUND;
-use crate::samples::TRAFFIC;
-use crate::samples::figures_of_writing;
-use crate::samples::post;
+use crate::samples::{LONGEST, MOST_RECORDS, SOUND, TRAFFIC, figures_of_writing, post};
 use paper::check::check_paper;
 use paper::fault::PaperFault;
-use paper::fault::PaperFaultDebug;
-use paper::fault::PaperFaultPartialEq;
 use paper::reader::Reader;
-use std::test::*;
 
 // How many records the paper has, and all their octets.
 fn totals(paper: &[u8]) -> Result<(u64, u64), PaperFault> {
@@ -25,11 +17,11 @@ fn totals(paper: &[u8]) -> Result<(u64, u64), PaperFault> {
 }
 
 #[test]
-fn every_record_is_read_once() -> Result<(), Fail> {
+fn every_record_is_read_once(rt: HostRuntime) {
     let mut paper = [0; LONGEST];
-    check_eq(
+    assert_eq!(rt;
         figures_of_writing(TRAFFIC, &[post(1, 9); MOST_RECORDS], &mut paper),
-        SOUND,
-    )?;
-    check_eq(totals(&paper), Ok((1900, 17100)))
+        SOUND
+    );
+    assert_eq!(rt; totals(&paper), Ok((1900, 17100)));
 }

@@ -1,11 +1,9 @@
 // Papers to test on, and what their check says.
-use blocks::block::BLOCK;
-use blocks::block::MOST_BLOCKS;
+use blocks::block::{BLOCK, MOST_BLOCKS};
 use blocks::checksum::write_checksum;
 use paper::check::check_paper;
 use paper::header::Header;
-use paper::record::Call;
-use paper::record::Record;
+use paper::record::{Call, Record};
 use paper_writer::write::write_paper;
 
 // The bytes of the longest paper.

@@ -1,95 +1,91 @@
 -- One call more in a run. Assumes nothing.
-use mathlib.Core.Path.{_≡_, refl, sym, ap, subst, _∙_}
-use mathlib.Core.List.{List, [], _∷_, _++_}
-use Prim.Native.Nat.{ℕ, max, _+_, _-_, _<_, _≤_}
-use native.Mathlib.Omega.{arith}
-use lib.ListN.{length, take, drop, set, getD}
-use Rattle·std.proofs.shelf.Lists.{drop-drop, take-more, take-more-set}
-use Rattle·tallies.specs.Kinds.{Kind}
-use Rattle·rules.specs.Rules.{Meaning}
-use Rattle·moves.specs.Placed.{SparesPast}
-use Rattle·book.specs.declared.answer.Answer.{Answer}
-use Rattle·book.specs.Books.{Call, answers, after-all}
-use Rattle·table.specs.declared.request.Request.{Request}
-use Rattle·table.specs.declared.table.Table.{Table}
-use Rattle·table.specs.Tables.{Keeps, Did}
-use Rattle·table.specs.Requests.{asked, words-asked}
-use Rattle·replay·specs.Runs.{Step, Ran, calls, told, last-table}
-use Rattle·replay·specs.Replayed.{all-asked, most-asked, Replayed}
-use Rattle·replay·proofs.Accounts.{run-by-book, ends}
+use Rattle.std.proofs.Common.{◌≡◌, ℕ, ◌+◌, ◌-◌, ◌<◌, ◌≤◌, max, List, [], ◌∷◌, ◌++◌, length, get_or, take, drop, set, sym, refl, ap, ◌∙◌, subst, arith}
+use Rattle.std.proofs.lemmas.List.{drop-drop, take_more, take_more_set}
+use Rattle.tallies.specs.Kinds.{Kind}
+use Rattle.rules.specs.Rules.{Meaning}
+use Rattle.moves.specs.Placed.{SparesPast}
+use Rattle.book.specs.declared.answer.Answer.{Answer}
+use Rattle.book.specs.Books.{Call, answers, after_all}
+use Rattle.table.specs.declared.request.Request.{Request}
+use Rattle.table.specs.declared.table.Table.{Table}
+use Rattle.table.specs.Tables.{Keeps, Did}
+use Rattle.table.specs.Requests.{asked, words_asked}
+use Rattle.replay.specs.Runs.{Step, Ran, calls, told, last_table}
+use Rattle.replay.specs.Replayed.{all_asked, most_asked, Replayed}
+use Rattle.replay.proofs.Accounts.{run_by_book, ends}
 
-asked-more : {V : Type 0} (lent : ℕ) (rs : List (Request V)) (r : Request V) → all-asked lent (rs ++ r ∷ []) ≡ all-asked lent rs ++ asked lent r ∷ []
-asked-more lent [] r = refl
-asked-more lent (q ∷ rs) r = ap (λ l. asked lent q ∷ l) (asked-more lent rs r)
+asked_more : {V : Type 0} (lent : ℕ) (rs : List (Request V)) (r : Request V) → all_asked lent (rs ++ r ∷ []) ≡ all_asked lent rs ++ asked lent r ∷ []
+asked_more lent [] r = refl
+asked_more lent (q ∷ rs) r = ap (λ l. asked lent q ∷ l) (asked_more lent rs r)
 
 -- words past the first n, and then past the first m, are as they were: so are those past both
-past-both : (n m : ℕ) (words now next : List ℕ) → SparesPast n words now → SparesPast m now next → SparesPast (max n m) words next
-past-both n m words now next was is = further m next now is (omega arith) ∙ further n now words was (omega arith)
+past_both : (n m : ℕ) (words now next : List ℕ) → SparesPast n words now → SparesPast m now next → SparesPast (max n m) words next
+past_both n m words now next was is = further m next now is (omega arith) ∙ further n now words was (omega arith)
   where
     further : (j : ℕ) (xs ys : List ℕ) → drop j xs ≡ drop j ys → j ≤ max n m → drop (max n m) xs ≡ drop (max n m) ys
     further j xs ys same low =
         let gap : j + (max n m - j) ≡ max n m = omega arith in
         ap (λ h. drop h xs) (sym gap) ∙ sym (drop-drop (max n m - j) j xs) ∙ ap (drop (max n m - j)) same ∙ drop-drop (max n m - j) j ys ∙ ap (λ h. drop h ys) gap
 
-most-more : {V : Type 0} (lent : ℕ) (rs : List (Request V)) (r : Request V) → most-asked lent (rs ++ r ∷ []) ≡ max (most-asked lent rs) (words-asked lent r)
-most-more lent [] r = omega arith
-most-more lent (q ∷ rs) r = let rest = most-more lent rs r in omega arith
+most_more : {V : Type 0} (lent : ℕ) (rs : List (Request V)) (r : Request V) → most_asked lent (rs ++ r ∷ []) ≡ max (most_asked lent rs) (words_asked lent r)
+most_more lent [] r = omega arith
+most_more lent (q ∷ rs) r = let rest = most_more lent rs r in omega arith
 
 -- the turn of a loop that makes the call at i, of the work words
-pub spares-more : {V : Type 0} (lent i : ℕ) (rs : List (Request V)) (r : Request V) (words now next : List ℕ) → i < length rs → r ≡ getD rs i r →
-    SparesPast (most-asked lent (take i rs)) words now → SparesPast (words-asked lent r) now next → SparesPast (most-asked lent (take (i + 1) rs)) words next
-spares-more lent i rs r words now next low is was step =
+pub spares_more : {V : Type 0} (lent i : ℕ) (rs : List (Request V)) (r : Request V) (words now next : List ℕ) → i < length rs → r ≡ get_or rs i r →
+    SparesPast (most_asked lent (take i rs)) words now → SparesPast (words_asked lent r) now next → SparesPast (most_asked lent (take (i + 1) rs)) words next
+spares_more lent i rs r words now next low is was step =
     subst (λ n. SparesPast n words next)
-    (sym (most-more lent (take i rs) r) ∙ ap (most-asked lent) (ap (λ x. take i rs ++ x ∷ []) is ∙ sym (take-more rs i r low)))
-    (past-both (most-asked lent (take i rs)) (words-asked lent r) words now next was step)
+    (sym (most_more lent (take i rs) r) ∙ ap (most_asked lent) (ap (λ x. take i rs ++ x ∷ []) is ∙ sym (take_more rs i r low)))
+    (past_both (most_asked lent (take i rs)) (words_asked lent r) words now next was step)
 
 module _ {V : Type 0} (k : Kind V) (rule : Meaning) where
-  ran-more : (t : Table V) (ss : List (Step V)) (s : Step V) → Ran k rule t ss → Did k rule (last-table t ss) (s .call) (s .answer) (s .table) → Ran k rule t (ss ++ s ∷ [])
-  ran-more t [] s ran did = (did, tt)
-  ran-more t (q ∷ ss) s (here, ran) did = (here, ran-more (q .table) ss s ran did)
+  ran_more : (t : Table V) (ss : List (Step V)) (s : Step V) → Ran k rule t ss → Did k rule (last_table t ss) s.call s.answer s.table → Ran k rule t (ss ++ s ∷ [])
+  ran_more t [] s ran did = (did, tt)
+  ran_more t (q ∷ ss) s (here, ran) did = (here, ran_more q.table ss s ran did)
 
-  calls-more : (ss : List (Step V)) (s : Step V) → calls (ss ++ s ∷ []) ≡ calls ss ++ s .call ∷ []
-  calls-more [] s = refl
-  calls-more (q ∷ ss) s = ap (λ l. q .call ∷ l) (calls-more ss s)
+  calls_more : (ss : List (Step V)) (s : Step V) → calls (ss ++ s ∷ []) ≡ calls ss ++ s.call ∷ []
+  calls_more [] s = refl
+  calls_more (q ∷ ss) s = ap (λ l. q.call ∷ l) (calls_more ss s)
 
-  told-more : (ss : List (Step V)) (s : Step V) → told (ss ++ s ∷ []) ≡ told ss ++ s .answer ∷ []
-  told-more [] s = refl
-  told-more (q ∷ ss) s = ap (λ l. q .answer ∷ l) (told-more ss s)
+  told_more : (ss : List (Step V)) (s : Step V) → told (ss ++ s ∷ []) ≡ told ss ++ s.answer ∷ []
+  told_more [] s = refl
+  told_more (q ∷ ss) s = ap (λ l. q.answer ∷ l) (told_more ss s)
 
-  last-more : (t : Table V) (ss : List (Step V)) (s : Step V) → last-table t (ss ++ s ∷ []) ≡ s .table
-  last-more t [] s = refl
-  last-more t (q ∷ ss) s = last-more (q .table) ss s
+  last_more : (t : Table V) (ss : List (Step V)) (s : Step V) → last_table t (ss ++ s ∷ []) ≡ s.table
+  last_more t [] s = refl
+  last_more t (q ∷ ss) s = last_more q.table ss s
 
   -- a run, as one of calls and answers that are equal to its own
-  replayed-as : (t u : Table V) (ss : List (Step V)) (cs : List (Call V)) (said : List (Answer V)) → Ran k rule t ss → calls ss ≡ cs → told ss ≡ said → last-table t ss ≡ u → Replayed k rule t cs said u
-  replayed-as t u ss cs said ran made answered left = record {
+  replayed_as : (t u : Table V) (ss : List (Step V)) (cs : List (Call V)) (said : List (Answer V)) → Ran k rule t ss → calls ss ≡ cs → told ss ≡ said → last_table t ss ≡ u → Replayed k rule t cs said u
+  replayed_as t u ss cs said ran made answered left = record {
     steps = ss;
     ran = ran;
     made = made;
     answered = answered;
     left = left;
-    by-the-book = λ b keeps. (
-      sym answered ∙ run-by-book k rule t b keeps ss ran ∙ ap (answers k rule b) made,
-      subst (λ x. Keeps k x (after-all k rule b cs)) left (subst (λ ds. Keeps k (last-table t ss) (after-all k rule b ds)) made (ends k rule t b keeps ss ran)),
+    by_the_book = λ b keeps. (
+      sym answered ∙ run_by_book k rule t b keeps ss ran ∙ ap (answers k rule b) made,
+      subst (λ x. Keeps k x (after_all k rule b cs)) left (subst (λ ds. Keeps k (last_table t ss) (after_all k rule b ds)) made (ends k rule t b keeps ss ran)),
     );
   }
 
-  pub replayed-none : (t : Table V) → Replayed k rule t [] [] t
-  replayed-none t = replayed-as t t [] [] [] tt refl refl refl
+  pub replayed_none : (t : Table V) → Replayed k rule t [] [] t
+  replayed_none t = replayed_as t t [] [] [] tt refl refl refl
 
   -- the turn of a loop that makes the call at i
-  pub replayed-more :
-      (t u v : Table V) (lent : ℕ) (i : ℕ) (rs : List (Request V)) (r : Request V) (xs ys : List (Answer V)) (a : Answer V) → i < length rs → r ≡ getD rs i r → i < length xs → ys ≡ set xs i a →
-      Replayed k rule t (all-asked lent (take i rs)) (take i xs) u → Did k rule u (asked lent r) a v →
-      Replayed k rule t (all-asked lent (take (i + 1) rs)) (take (i + 1) ys) v
-  replayed-more t u v lent i rs r xs ys a low is room wrote run did =
+  pub replayed_more :
+      (t u v : Table V) (lent : ℕ) (i : ℕ) (rs : List (Request V)) (r : Request V) (xs ys : List (Answer V)) (a : Answer V) → i < length rs → r ≡ get_or rs i r → i < length xs → ys ≡ set xs i a →
+      Replayed k rule t (all_asked lent (take i rs)) (take i xs) u → Did k rule u (asked lent r) a v →
+      Replayed k rule t (all_asked lent (take (i + 1) rs)) (take (i + 1) ys) v
+  replayed_more t u v lent i rs r xs ys a low is room wrote run did =
       let s : Step V = record { call = asked lent r; answer = a; table = v } in
-      let ss = run .steps in
-      let one-more : all-asked lent (take (i + 1) rs) ≡ all-asked lent (take i rs) ++ asked lent r ∷ [] =
-      ap (all-asked lent) (take-more rs i r low ∙ ap (λ x. take i rs ++ x ∷ []) (sym is)) ∙ asked-more lent (take i rs) r in
-      let noted : take (i + 1) ys ≡ take i xs ++ a ∷ [] = ap (take (i + 1)) wrote ∙ take-more-set xs i a room in
-      replayed-as t v (ss ++ s ∷ []) _ _
-      (ran-more t ss s (run .ran) (subst (λ x. Did k rule x (asked lent r) a v) (sym (run .left)) did))
-      (calls-more ss s ∙ ap (λ l. l ++ asked lent r ∷ []) (run .made) ∙ sym one-more)
-      (told-more ss s ∙ ap (λ l. l ++ a ∷ []) (run .answered) ∙ sym noted)
-      (last-more t ss s)
+      let ss = run.steps in
+      let one_more : all_asked lent (take (i + 1) rs) ≡ all_asked lent (take i rs) ++ asked lent r ∷ [] =
+      ap (all_asked lent) (take_more rs i r low ∙ ap (λ x. take i rs ++ x ∷ []) (sym is)) ∙ asked_more lent (take i rs) r in
+      let noted : take (i + 1) ys ≡ take i xs ++ a ∷ [] = ap (take (i + 1)) wrote ∙ take_more_set xs i a room in
+      replayed_as t v (ss ++ s ∷ []) _ _
+      (ran_more t ss s run.ran (subst (λ x. Did k rule x (asked lent r) a v) (sym run.left) did))
+      (calls_more ss s ∙ ap (λ l. l ++ asked lent r ∷ []) run.made ∙ sym one_more)
+      (told_more ss s ∙ ap (λ l. l ++ a ∷ []) run.answered ∙ sym noted)
+      (last_more t ss s)

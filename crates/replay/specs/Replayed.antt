@@ -1,26 +1,24 @@
 -- A list of requests, made into a run. Assumes nothing.
-use mathlib.Core.Path.{_≡_}
-use mathlib.Core.List.{List, [], _∷_}
-use Prim.Native.Nat.{ℕ, max}
-use Rattle·tallies.specs.Kinds.{Kind}
-use Rattle·rules.specs.Rules.{Meaning}
-use Rattle·book.specs.declared.answer.Answer.{Answer}
-use Rattle·book.specs.Books.{Book, Call, answers, after-all}
-use Rattle·table.specs.declared.request.Request.{Request}
-use Rattle·table.specs.declared.table.Table.{Table}
-use Rattle·table.specs.Tables.{Keeps}
-use Rattle·table.specs.Requests.{asked, words-asked}
-use Rattle·replay·specs.Runs.{Step, Ran, calls, told, last-table}
+use Rattle.std.specs.Prelude.{◌≡◌, ℕ, max, List, [], ◌∷◌}
+use Rattle.tallies.specs.Kinds.{Kind}
+use Rattle.rules.specs.Rules.{Meaning}
+use Rattle.book.specs.declared.answer.Answer.{Answer}
+use Rattle.book.specs.Books.{Book, Call, answers, after_all}
+use Rattle.table.specs.declared.request.Request.{Request}
+use Rattle.table.specs.declared.table.Table.{Table}
+use Rattle.table.specs.Tables.{Keeps}
+use Rattle.table.specs.Requests.{asked, words_asked}
+use Rattle.replay.specs.Runs.{Step, Ran, calls, told, last_table}
 
 -- the calls that requests ask for, where so many work words are lent
-abbrev pub all-asked : {V : Type 0} → ℕ → List (Request V) → List (Call V)
-all-asked lent [] = []
-all-asked lent (r ∷ rs) = asked lent r ∷ all-asked lent rs
+abbrev pub all_asked : {V : Type 0} → ℕ → List (Request V) → List (Call V)
+all_asked lent [] = []
+all_asked lent (r ∷ rs) = asked lent r ∷ all_asked lent rs
 
 -- the most work words that go with any of the requests
-abbrev pub most-asked : {V : Type 0} → ℕ → List (Request V) → ℕ
-most-asked lent [] = 0
-most-asked lent (r ∷ rs) = max (words-asked lent r) (most-asked lent rs)
+abbrev pub most_asked : {V : Type 0} → ℕ → List (Request V) → ℕ
+most_asked lent [] = 0
+most_asked lent (r ∷ rs) = max (words_asked lent r) (most_asked lent rs)
 
 -- a run of just these calls, answered just so, led from the table t to the table u; so for every book that t keeps, the answers
 -- are the book's to this list, and u keeps the book after it
@@ -29,5 +27,5 @@ pub record Replayed {V : Type 0} (k : Kind V) (rule : Meaning) (t : Table V) (cs
   pub ran : Ran k rule t steps
   pub made : calls steps ≡ cs
   pub answered : told steps ≡ said
-  pub left : last-table t steps ≡ u
-  pub by-the-book : (b : Book V) → Keeps k t b → (said ≡ answers k rule b cs) × Keeps k u (after-all k rule b cs)
+  pub left : last_table t steps ≡ u
+  pub by_the_book : (b : Book V) → Keeps k t b → (said ≡ answers k rule b cs) × Keeps k u (after_all k rule b cs)

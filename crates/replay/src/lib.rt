@@ -1,10 +1,11 @@
 // A list of requests, made one after another on a table, and the theorem over such runs.
-ghost use mathlib.Core.Path.{_≡_};
-ghost use Prim.Native.Nat.{min, _<_};
-ghost use lib.ListN.{length, drop, set, take};
-ghost use Rattle·moves.specs.Placed.{SparesPast};
-ghost use Rattle·replay·specs.Account.{Account};
-ghost use Rattle·replay·specs.Replayed.{all-asked, most-asked, Replayed};
+#![tactic(auto)]
+
+ghost use Rattle.std.specs.Prelude.{◌≡◌, ◌<◌, min, length, take, drop, slice_set};
+ghost use Rattle.moves.specs.Placed.{SparesPast};
+ghost use Rattle.replay.specs.Account.{Account};
+ghost use Rattle.replay.specs.Replayed.{all_asked, most_asked, Replayed};
+
 use book::answer::Answer;
 use rules::rule::Rule;
 use table::request::Request;
@@ -13,8 +14,8 @@ use tallies::tally::Tally;
 
 // Writes an answer into its place.
 fn note<T: Copy>(answers: &mut [Answer<T>], i: usize, answer: Answer<T>)
-    requires { ⌜ i < length (now answers) ⌝ }
-    ensures { λ _. ⌜ now (answers .exit) ≡ set (now (answers .entry)) i answer ⌝ }
+    requires { i < length answers.old }
+    ensures { answers.new ≡ slice_set answers.old i answer }
 {
     answers[i] = answer;
 }
@@ -28,12 +29,12 @@ pub fn replay<T: Tally + Copy, R: Rule>(
     words: &mut [u32],
     answers: &mut [Answer<T>],
 ) -> usize
-    ensures made { λ n. ⌜ n ≡ min (length (now (requests .entry))) (length (now (answers .entry))) ⌝ }
-    ensures replayed { λ n. ⌜ Replayed (T·Tally .kind) (R·Rule .meaning (now (rule .entry))) (now (table .entry))
-        (all-asked (length (now (words .entry))) (take n (now (requests .entry)))) (take n (now (answers .exit))) (now (table .exit)) ⌝ }
-    ensures words { λ n. ⌜ SparesPast (most-asked (length (now (words .entry))) (take n (now (requests .entry)))) (now (words .entry)) (now (words .exit)) ⌝ }
-    ensures rest { λ n. ⌜ drop n (now (answers .exit)) ≡ drop n (now (answers .entry)) ⌝ }
-    ensures account { λ _. ⌜ Account (T·Tally .kind) (R·Rule .meaning (now (rule .entry))) ⌝ }
+    ensures made { result ≡ min (length requests.now) (length answers.old) }
+    ensures replayed { Replayed T.Tally.kind (R.Rule.meaning rule.now) table.old
+        (all_asked (length words.old) (take result requests.now)) (take result answers.new) table.new }
+    ensures words { SparesPast (most_asked (length words.old) (take result requests.now)) words.old words.new }
+    ensures rest { drop result answers.new ≡ drop result answers.old }
+    ensures account { Account T.Tally.kind (R.Rule.meaning rule.now) }
 {
     let count = requests.len().min(answers.len());
     for i in 0..count {

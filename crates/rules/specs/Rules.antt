@@ -1,9 +1,7 @@
 -- What a fingerprint rule means, and what the two rules make of a key. Assumes nothing.
-use mathlib.Core.List.{List}
-use Prim.Native.Nat.{ℕ, _%_, _≤_, _<_}
-use lib.ListN.{take}
-use Rattle·numbers.specs.Fnv.{fnv-1a}
-use Rattle·numbers.specs.LittleEndian.{number}
+use Rattle.std.specs.Prelude.{ℕ, ◌%◌, ◌<◌, ◌≤◌, List, take}
+use Rattle.numbers.specs.Fnv.{fnv_1a}
+use Rattle.numbers.specs.LittleEndian.{number}
 
 -- the fingerprint of each key at each range
 abbrev pub Meaning : Type 0
@@ -14,16 +12,16 @@ abbrev pub Ranged : Meaning → Type 0
 Ranged fingerprint = (key : List ℕ) (range : ℕ) → 1 ≤ range → fingerprint key range < range
 
 -- the numbers by which papers name the rules
-abbrev pub plain-rule-number : ℕ
-plain-rule-number = 1
+abbrev pub plain_rule_number : ℕ
+plain_rule_number = 1
 
-abbrev pub fnv-rule-number : ℕ
-fnv-rule-number = 2
+abbrev pub fnv_rule_number : ℕ
+fnv_rule_number = 2
 
 -- the number in the first eight bytes, or all if fewer
-abbrev pub plain-rule : Meaning
-plain-rule key range = number (take 8 key) % range
+abbrev pub plain_rule : Meaning
+plain_rule key range = number (take 8 key) % range
 
 -- the FNV-1a number of all bytes
-abbrev pub fnv-rule : Meaning
-fnv-rule key range = fnv-1a key % range
+abbrev pub fnv_rule : Meaning
+fnv_rule key range = fnv_1a key % range

@@ -1,4 +1,6 @@
-ghost use Rattle·rules·specs.Rules.{fnv-rule, fnv-rule-number};
+ghost use Rattle.rules.specs.Rules.{fnv_rule, fnv_rule_number};
+ghost use Rattle.std.proofs.Common.{rules};
+
 use crate::rule::Rule;
 use numbers::fnv::fnv1a;
 use std::num::NonZeroU32;
@@ -7,12 +9,14 @@ use std::num::NonZeroU32;
 #[derive(Clone, Copy)]
 pub struct Fnv;
 
-pub impl Rule for Fnv as FnvRule {
-    ghost meaning = { λ _. fnv-rule };
+impl Rule for Fnv {
+    ghost meaning = { λ _. fnv_rule };
 
-    ghost number = { fnv-rule-number };
+    ghost number = { fnv_rule_number };
 
     const NUMBER: u8 = 2;
+
+    ghost ranged = { Prim.search rules };
 
     fn rule_number() -> u8 {
         Self::NUMBER

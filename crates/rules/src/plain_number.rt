@@ -1,4 +1,6 @@
-ghost use Rattle·rules·specs.Rules.{plain-rule, plain-rule-number};
+ghost use Rattle.rules.specs.Rules.{plain_rule, plain_rule_number};
+ghost use Rattle.std.proofs.Common.{rules};
+
 use crate::rule::Rule;
 use std::num::NonZeroU32;
 
@@ -6,12 +8,14 @@ use std::num::NonZeroU32;
 #[derive(Clone, Copy)]
 pub struct PlainNumber;
 
-pub impl Rule for PlainNumber as PlainNumberRule {
-    ghost meaning = { λ _. plain-rule };
+impl Rule for PlainNumber {
+    ghost meaning = { λ _. plain_rule };
 
-    ghost number = { plain-rule-number };
+    ghost number = { plain_rule_number };
 
     const NUMBER: u8 = 1;
+
+    ghost ranged = { Prim.search rules };
 
     fn rule_number() -> u8 {
         Self::NUMBER

@@ -1,27 +1,26 @@
-ghost use mathlib.Core.Path.{_≡_};
-ghost use Prim.Native.Nat.{ℕ};
-ghost use Rattle·std.specs.NonZero.{of-u32};
-ghost use Rattle·rules·specs.Rules.{Meaning, Ranged};
+ghost use Rattle.std.specs.Prelude.{◌≡◌, ℕ};
+ghost use Rattle.std.specs.NonZero.{non_zero_u32_get};
+ghost use Rattle.rules.specs.Rules.{Meaning, Ranged};
+
 use std::num::NonZeroU32;
 
 // A fingerprint rule. `meaning` is the one function that it computes, and `ranged` says that its numbers are below the range.
 pub trait Rule {
     ghost meaning: { Self → Meaning };
 
-    law ranged: { (rule : Self) → Ranged (meaning rule) };
-
     // The number by which papers name the rule, or 0 if they name it by none.
     ghost number: { ℕ };
 
-    // The same number in code. Contracts cannot name a constant: `rule_number` gives its value.
+    // The same number in code, which `rule_number` gives.
     const NUMBER: u8;
 
     // The rule's number.
     fn rule_number() -> u8
-        ensures { λ r. ⌜ r ≡ number ⌝ };
+        ensures { result ≡ number };
 
     // The fingerprint of a key, below the range. The rule stays as it was.
     fn fingerprint(&self, key: &[u8], range: NonZeroU32) -> u32
-        ensures value { λ r. ⌜ r ≡ meaning (now (self .entry)) (now (key .entry)) (of-u32 range) ⌝ }
-        ensures kept { λ _. ⌜ now (self .exit) ≡ now (self .entry) ⌝ };
+        ensures value { result ≡ meaning self.now key.now (non_zero_u32_get range) };
+
+    ghost ranged: { (rule : Self) → Ranged (meaning rule) };
 }

@@ -1,76 +1,70 @@
 -- One call of a run: its figures and its line, held against the book. Assumes nothing.
-use mathlib.Core.Path.{_≡_, sym, ap, subst, _∙_}
-use mathlib.Core.Bool.{true, false, cond}
-use Prim.Native.Nat.{ℕ, _^_, _<_, _≤_}
-use native.Mathlib.Omega.{arith}
-use lib.ListN.{length}
-use Rattle·std.proofs.shelf.Tests.{le-ltb}
-use Rattle·std.proofs.shelf.Decimals.{length-decimal-le}
-use Rattle·std.specs.declared.option.Option.{Option}
-use Rattle·std.specs.declared.option.Option.the-variants.{Some}
-use Rattle·tallies.specs.Kinds.{Kind}
-use Rattle·tallies.specs.Traffic.{most-octets}
-use Rattle·rules.specs.Rules.{Meaning}
-use Rattle·seats.specs.declared.refusal.Refusal.{Refusal}
-use Rattle·seats.specs.declared.refusal.Refusal.the-variants.{Buckets, Rows, Seats, Words, LongKey, NoAmount, Ceiling, NoSeating, NotHeld, NotTakenBack, RowLimit, NoNarrowSeating}
-use Rattle·seats.specs.Refusals.{refusal-number}
-use Rattle·book.specs.declared.answer.Answer.{Answer}
-use Rattle·book.specs.declared.answer.Answer.the-variants.{Tallied, Held, Sized, Refused}
-use Rattle·book.specs.Answers.{answer-number}
-use Rattle·book.specs.Books.{Book, Call, look-up, holding, fingerprint, too-long, turned-away-if, answer, after}
-use Rattle·table.specs.declared.table.Table.{Table}
-use Rattle·table.specs.Tables.{Keeps, Did}
-use Rattle·paper.specs.declared.«record».Record.{Record}
-use Rattle·paper.specs.Records.{takes-key}
-use Rattle·run·specs.Figures.{Figuring}
-use Rattle·run·specs.Lines.{line}
-use Rattle·run·specs.Printed.{call-for, call-line, figures-held, figures-after}
-use Rattle·run·specs.Called.{Called}
-use Rattle·run·proofs.Written.{number-then-long, line-long}
+use Rattle.std.proofs.Common.{◌≡◌, ℕ, ◌^◌, ◌<◌, ◌≤◌, true, false, cond, length, Some, Option, sym, ap, ◌∙◌, subst, arith}
+use Rattle.std.proofs.lemmas.Bool.{le-ltb}
+use Rattle.std.proofs.lemmas.Fmt.{length-decimal-le}
+use Rattle.tallies.specs.Kinds.{Kind}
+use Rattle.tallies.specs.Traffic.{most_octets}
+use Rattle.rules.specs.Rules.{Meaning}
+use Rattle.seats.specs.declared.refusal.Refusal.{Refusal}
+use Rattle.seats.specs.declared.refusal.Refusal.TheVariants.{Buckets, Rows, Seats, Words, LongKey, NoAmount, Ceiling, NoSeating, NotHeld, NotTakenBack, RowLimit, NoNarrowSeating}
+use Rattle.seats.specs.Refusals.{refusal_number}
+use Rattle.book.specs.declared.answer.Answer.{Answer}
+use Rattle.book.specs.declared.answer.Answer.TheVariants.{Tallied, Held, Sized, Refused}
+use Rattle.book.specs.Answers.{answer_number}
+use Rattle.book.specs.Books.{Book, Call, look_up, holding, fingerprint, too_long, turned_away_if, answer, after}
+use Rattle.table.specs.declared.table.Table.{Table}
+use Rattle.table.specs.Tables.{Keeps, Did}
+use Rattle.paper.specs.declared.«record».Record.{Record}
+use Rattle.paper.specs.Records.{takes_key}
+use Rattle.run.specs.Figures.{Figuring}
+use Rattle.run.specs.Lines.{line}
+use Rattle.run.specs.Printed.{call_for, call_line, figures_held, figures_after}
+use Rattle.run.specs.Called.{Called}
+use Rattle.run.proofs.Written.{number_then_long, line_long}
 
--- the figures of the tally that a look-up finds
-module _ {V : Type 0} (k : Kind V) (rule : Meaning) (f : Figuring V) (small : (v : V) → k .is-value v ≡ true → f .shown v .1 ≤ most-octets) where
-  held-same : (x y : Option V) → _≡_ {A = Answer V} (Held x) (Held y) → x ≡ y
-  held-same x y e = cc
+-- the figures of the tally that a look_up finds
+module _ {V : Type 0} (k : Kind V) (rule : Meaning) (f : Figuring V) (small : (v : V) → k.is_value v ≡ true → (f.shown v).1 ≤ most_octets) where
+  held_same : (x y : Option V) → ◌≡◌ {A = Answer V} (Held x) (Held y) → x ≡ y
+  held_same x y e = cc
 
-  pub found : (t : Table V) (b : Book V) (r : Record) (v : V) (figures : ℕ × ℕ) → Keeps k t b → takes-key (r .call) ≡ true → length (r .key) ≡ 13 → Held (Some v) ≡ answer k rule b (look-up (r .key)) → figures ≡ f .shown v →
-      (figures ≡ figures-after rule f b r) × (figures .1 ≤ most-octets)
+  pub found : (t : Table V) (b : Book V) (r : Record) (v : V) (figures : ℕ × ℕ) → Keeps k t b → takes_key r.call ≡ true → length r.key ≡ 13 → Held (Some v) ≡ answer k rule b (look_up r.key) → figures ≡ f.shown v →
+      (figures ≡ figures_after rule f b r) × (figures.1 ≤ most_octets)
   found t b r v figures keeps keyed long looked is =
-      let entry = b .entries (fingerprint rule b (r .key)) in
-      let short : too-long (r .key) ≡ false = le-ltb 64 (length (r .key)) (omega arith) in
-      let holds : Some v ≡ entry = held-same (Some v) entry (looked ∙ ap (λ x. turned-away-if b x LongKey (record { answer = Held entry; book = b }) .answer) short) in
-      let low = small v (keeps .values (fingerprint rule b (r .key)) v (sym holds)) in (
-        is ∙ ap (figures-held f) holds ∙ sym (ap (λ x. cond x (figures-held f entry) (b .size .rows, holding b)) keyed),
-        subst (λ n. n ≤ most-octets) (sym (ap (λ (p : ℕ × ℕ). p .1) is)) low,
+      let entry = b.entries (fingerprint rule b r.key) in
+      let short : too_long r.key ≡ false = le-ltb 64 (length r.key) (omega arith) in
+      let holds : Some v ≡ entry = held_same (Some v) entry (looked ∙ ap (λ x. (turned_away_if b x LongKey (record { answer = Held entry; book = b })).answer) short) in
+      let low = small v (keeps.values (fingerprint rule b r.key) v (sym holds)) in (
+        is ∙ ap (figures_held f) holds ∙ sym (ap (λ x. cond x (figures_held f entry) (b.size.rows, holding b)) keyed),
+        subst (λ n. n ≤ most_octets) (sym (ap (λ (p : ℕ × ℕ). p.1) is)) low,
       )
 
-refusals-few : (why : Refusal) → refusal-number why < 100
-refusals-few Buckets = omega arith
-refusals-few Rows = omega arith
-refusals-few Seats = omega arith
-refusals-few Words = omega arith
-refusals-few LongKey = omega arith
-refusals-few NoAmount = omega arith
-refusals-few Ceiling = omega arith
-refusals-few NoSeating = omega arith
-refusals-few NotHeld = omega arith
-refusals-few NotTakenBack = omega arith
-refusals-few RowLimit = omega arith
-refusals-few NoNarrowSeating = omega arith
+refusals_few : (why : Refusal) → refusal_number why < 100
+refusals_few Buckets = omega arith
+refusals_few Rows = omega arith
+refusals_few Seats = omega arith
+refusals_few Words = omega arith
+refusals_few LongKey = omega arith
+refusals_few NoAmount = omega arith
+refusals_few Ceiling = omega arith
+refusals_few NoSeating = omega arith
+refusals_few NotHeld = omega arith
+refusals_few NotTakenBack = omega arith
+refusals_few RowLimit = omega arith
+refusals_few NoNarrowSeating = omega arith
 
-numbers-few : {V : Type 0} (a : Answer V) → answer-number a < 100
-numbers-few (Tallied v) = omega arith
-numbers-few (Held o) = omega arith
-numbers-few (Sized n) = omega arith
-numbers-few (Refused why) = refusals-few why
+numbers_few : {V : Type 0} (a : Answer V) → answer_number a < 100
+numbers_few (Tallied v) = omega arith
+numbers_few (Held o) = omega arith
+numbers_few (Sized n) = omega arith
+numbers_few (Refused why) = refusals_few why
 
-line-short : (place number first second : ℕ) → place < 10000 → number < 100 → first < 2 ^ 32 → second ≤ most-octets → length (line place number first second) ≤ 36
-line-short place number first second p n g s =
-    let long = line-long place number first second in
-    let a = number-then-long place 32 in
-    let b = number-then-long number 32 in
-    let c = number-then-long first 32 in
-    let d = number-then-long second 10 in
+line_short : (place number first second : ℕ) → place < 10000 → number < 100 → first < 2 ^ 32 → second ≤ most_octets → length (line place number first second) ≤ 36
+line_short place number first second p n g s =
+    let long = line_long place number first second in
+    let a = number_then_long place 32 in
+    let b = number_then_long number 32 in
+    let c = number_then_long first 32 in
+    let d = number_then_long second 10 in
     let la = length-decimal-le 4 place (omega arith) (omega arith) (omega arith) in
     let lb = length-decimal-le 2 number (omega arith) (omega arith) (omega arith) in
     let lc = length-decimal-le 10 first (omega arith) (omega arith) (omega arith) in
@@ -78,18 +72,18 @@ line-short place number first second p n g s =
     omega arith
 
 module _ {V : Type 0} (k : Kind V) (rule : Meaning) (f : Figuring V) where
-  pub called : (t u : Table V) (b : Book V) (r : Record) (c : Call V) (a : Answer V) (figures : ℕ × ℕ) (place number first : ℕ) → Keeps k t b → c ≡ call-for f r → Did k rule t c a u →
-      (Keeps k u (after k rule b (call-for f r)) → (figures ≡ figures-after rule f (after k rule b (call-for f r)) r) × (figures .1 ≤ most-octets)) →
-      number ≡ answer-number a → first ≡ figures .0 → first < 2 ^ 32 →
-      Called k rule f b place r (record { place = place; number = number; first = first; second = figures .1 }) u
-  unfolding call-line
-  called t u b r c a figures place number first keeps asked did told number-is first-is narrow =
-      let call = call-for f r in
-      let kept : Keeps k u (after k rule b call) = subst (λ x. Keeps k u (after k rule b x)) asked (did .keeps b keeps) in
-      let said : a ≡ answer k rule b call = did .answers b keeps ∙ ap (answer k rule b) asked in
+  pub called : (t u : Table V) (b : Book V) (r : Record) (c : Call V) (a : Answer V) (figures : ℕ × ℕ) (place number first : ℕ) → Keeps k t b → c ≡ call_for f r → Did k rule t c a u →
+      (Keeps k u (after k rule b (call_for f r)) → (figures ≡ figures_after rule f (after k rule b (call_for f r)) r) × (figures.1 ≤ most_octets)) →
+      number ≡ answer_number a → first ≡ figures.0 → first < 2 ^ 32 →
+      Called k rule f b place r (record { place = place; number = number; first = first; second = figures.1 }) u
+  unfolding call_line
+  called t u b r c a figures place number first keeps asked did told number_is first-is narrow =
+      let call = call_for f r in
+      let kept : Keeps k u (after k rule b call) = subst (λ x. Keeps k u (after k rule b x)) asked (did.keeps b keeps) in
+      let said : a ≡ answer k rule b call = did.answers b keeps ∙ ap (answer k rule b) asked in
       let shows = told kept in
       record {
         keeps = kept;
-        is = λ i. line place ((number-is ∙ ap answer-number said) i) ((first-is ∙ ap (λ (p : ℕ × ℕ). p .0) (shows .0)) i) (shows .0 i .1);
-        short = λ low. line-short place number first (figures .1) low (subst (λ n. n < 100) (sym number-is) (numbers-few a)) narrow (shows .1);
+        is = λ i. line place ((number_is ∙ ap answer_number said) i) ((first-is ∙ ap (λ (p : ℕ × ℕ). p.0) shows.0) i) (shows.0 i).1;
+        short = λ low. line_short place number first figures.1 low (subst (λ n. n < 100) (sym number_is) (numbers_few a)) narrow shows.1;
       }

@@ -1,33 +1,28 @@
 -- Lines with their digits worked out. Assumes nothing.
-use mathlib.Core.Path.{_≡_, refl, sym, ap}
-use mathlib.Core.Bool.{Bool, true, cond, _&&_}
-use mathlib.Core.List.{List, [], _∷_, _++_}
-use Prim.Native.Nat.{ℕ, zero, suc, _+_, _/_, _%_, _^_, _<_}
-use native.Mathlib.Omega.{arith}
-use lib.Dec.{ltb}
-use Rattle·std.specs.Joined.{joined}
-use Rattle·std.proofs.shelf.Decimals.{Spells, decimal-from-spells, length-decimal-le}
-use Rattle·std.proofs.shelf.Tests.{and-parts, ltb-true, lt-ltb, le-ltb, cond-true, cond-false}
-use Rattle·run·specs.Lines.{number-then, line, fault-line}
+use Rattle.std.proofs.Common.{◌≡◌, ℕ, zero, suc, ◌+◌, ◌/◌, ◌%◌, ◌^◌, ◌<◌, Bool, true, cond, ◌&&◌, ltb, List, [], ◌∷◌, ◌++◌, sym, refl, ap, arith}
+use Rattle.std.specs.List.{flat_map}
+use Rattle.std.proofs.lemmas.Fmt.{AppendsLastDigit, decimal_from_appends, length-decimal-le}
+use Rattle.std.proofs.lemmas.Bool.{and_parts, ltb-true, lt-ltb, le-ltb, cond-true, cond-false}
+use Rattle.run.specs.Lines.{number_then, line, fault_line}
 
 -- the decimal digits of a number that has at most so many
 abbrev digits : ℕ → ℕ → List ℕ
 digits zero n = []
 digits (suc k) n = cond (ltb n 10) ((48 + n) ∷ []) (digits k (n / 10) ++ ((48 + n % 10) ∷ []))
 
-spells : Spells digits
+spells : AppendsLastDigit digits
 spells = record {
   one = λ k n low. cond-true (ltb n 10) _ _ (lt-ltb n 10 low);
   more = λ k n high. cond-false (ltb n 10) _ _ (le-ltb n 10 high);
 }
 
 -- and a byte behind all of them
-abbrev then-digits : ℕ → ℕ → List ℕ
-then-digits n end = digits 20 n ++ end ∷ []
+abbrev then_digits : ℕ → ℕ → List ℕ
+then_digits n end = digits 20 n ++ end ∷ []
 
-then-spelled : (n end : ℕ) → n < 2 ^ 64 → number-then n end ≡ then-digits n end
-unfolding number-then
-then-spelled n end small = ap (λ l. l ++ end ∷ []) (sym (decimal-from-spells digits spells 20 n small (length-decimal-le 20 n (omega arith) (omega arith) (omega arith))))
+then_spelled : (n end : ℕ) → n < 2 ^ 64 → number_then n end ≡ then_digits n end
+unfolding number_then
+then_spelled n end small = ap (λ l. l ++ end ∷ []) (sym (decimal_from_appends digits spells 20 n small (length-decimal-le 20 n (omega arith) (omega arith) (omega arith))))
 
 -- the four numbers of a line
 pub record Row : Type 0 where
@@ -40,38 +35,38 @@ abbrev pub row : ℕ → ℕ → ℕ → ℕ → Row
 row place number first second = record { place = place; number = number; first = first; second = second }
 
 -- its line, and the same with the digits worked out
-abbrev pub row-line : Row → List ℕ
-row-line r = line (r .place) (r .number) (r .first) (r .second)
+abbrev pub row_line : Row → List ℕ
+row_line r = line r.place r.number r.first r.second
 
-abbrev pub row-digits : Row → List ℕ
-row-digits r = ((then-digits (r .place) 32 ++ then-digits (r .number) 32) ++ then-digits (r .first) 32) ++ then-digits (r .second) 10
+abbrev pub row_digits : Row → List ℕ
+row_digits r = ((then_digits r.place 32 ++ then_digits r.number 32) ++ then_digits r.first 32) ++ then_digits r.second 10
 
 abbrev below : ℕ → Bool
 below n = ltb n (2 ^ 64)
 
 abbrev pub small : Row → Bool
-small r = below (r .place) && (below (r .number) && (below (r .first) && below (r .second)))
+small r = below r.place && (below r.number && (below r.first && below r.second))
 
-pub row-spelled : (r : Row) → small r ≡ true → row-line r ≡ row-digits r
+pub row_spelled : (r : Row) → small r ≡ true → row_line r ≡ row_digits r
 unfolding line
-row-spelled r fits =
-    let (a, rest) = and-parts (below (r .place)) _ fits in
-    let (b, others) = and-parts (below (r .number)) _ rest in
-    let (c, d) = and-parts (below (r .first)) (below (r .second)) others in
-    λ i. ((then-spelled (r .place) 32 (ltb-true _ _ a) i ++ then-spelled (r .number) 32 (ltb-true _ _ b) i) ++ then-spelled (r .first) 32 (ltb-true _ _ c) i)
-    ++ then-spelled (r .second) 10 (ltb-true _ _ d) i
+row_spelled r fits =
+    let (a, rest) = and_parts (below r.place) _ fits in
+    let (b, others) = and_parts (below r.number) _ rest in
+    let (c, d) = and_parts (below r.first) (below r.second) others in
+    λ i. ((then_spelled r.place 32 (ltb-true _ _ a) i ++ then_spelled r.number 32 (ltb-true _ _ b) i) ++ then_spelled r.first 32 (ltb-true _ _ c) i)
+    ++ then_spelled r.second 10 (ltb-true _ _ d) i
 
-abbrev pub all-small : List Row → Bool
-all-small [] = true
-all-small (r ∷ rs) = small r && all-small rs
+abbrev pub all_small : List Row → Bool
+all_small [] = true
+all_small (r ∷ rs) = small r && all_small rs
 
-pub rows-spelled : (rs : List Row) → all-small rs ≡ true → joined row-line rs ≡ joined row-digits rs
-rows-spelled [] fits = refl
-rows-spelled (r ∷ rs) fits =
-    let (this, others) = and-parts (small r) (all-small rs) fits in
-    λ i. row-spelled r this i ++ rows-spelled rs others i
+pub rows_spelled : (rs : List Row) → all_small rs ≡ true → flat_map row_line rs ≡ flat_map row_digits rs
+rows_spelled [] fits = refl
+rows_spelled (r ∷ rs) fits =
+    let (this, others) = and_parts (small r) (all_small rs) fits in
+    λ i. row_spelled r this i ++ rows_spelled rs others i
 
-pub fault-spelled : (number block place : ℕ) → number < 2 ^ 64 → block < 2 ^ 64 → place < 2 ^ 64 →
-    fault-line number block place ≡ (((70 ∷ 32 ∷ []) ++ then-digits number 32) ++ then-digits block 32) ++ then-digits place 10
-unfolding fault-line
-fault-spelled number block place a b c = λ i. (((70 ∷ 32 ∷ []) ++ then-spelled number 32 a i) ++ then-spelled block 32 b i) ++ then-spelled place 10 c i
+pub fault_spelled : (number block place : ℕ) → number < 2 ^ 64 → block < 2 ^ 64 → place < 2 ^ 64 →
+    fault_line number block place ≡ (((70 ∷ 32 ∷ []) ++ then_digits number 32) ++ then_digits block 32) ++ then_digits place 10
+unfolding fault_line
+fault_spelled number block place a b c = λ i. (((70 ∷ 32 ∷ []) ++ then_spelled number 32 a i) ++ then_spelled block 32 b i) ++ then_spelled place 10 c i

@@ -1,26 +1,21 @@
 -- Lines written number-then by number-then, and how long they are. Assumes nothing.
-use mathlib.Core.Path.{_≡_, ap, _∙_}
-use mathlib.Core.List.{List, [], _∷_, _++_}
-use Prim.Native.Nat.{ℕ, _+_, _≤_}
-use native.Mathlib.Omega.{arith}
-use lib.ListN.{length, length-append}
-use Rattle·std.specs.Written.{decimal}
-use Rattle·numbers.specs.Buffers.{put}
-use Rattle·numbers.proofs.Puts.{put-put}
-use Rattle·run·specs.Lines.{number-then, line, fault-line}
+use Rattle.std.proofs.Common.{◌≡◌, ℕ, ◌+◌, ◌≤◌, List, [], ◌∷◌, ◌++◌, length, decimal, ap, ◌∙◌, arith, length-append}
+use Rattle.numbers.specs.Buffers.{put}
+use Rattle.numbers.proofs.Puts.{put_put}
+use Rattle.run.specs.Lines.{number_then, line, fault_line}
 
-pub number-then-long : (n end : ℕ) → length (number-then n end) ≡ length (decimal n) + 1
-unfolding number-then
-number-then-long n end = length-append (decimal n) (end ∷ [])
+pub number_then_long : (n end : ℕ) → length (number_then n end) ≡ length (decimal n) + 1
+unfolding number_then
+number_then_long n end = length-append (decimal n) (end ∷ [])
 
-pub line-long : (a b c d : ℕ) → length (line a b c d) ≡ length (number-then a 32) + length (number-then b 32) + length (number-then c 32) + length (number-then d 10)
+pub line_long : (a b c d : ℕ) → length (line a b c d) ≡ length (number_then a 32) + length (number_then b 32) + length (number_then c 32) + length (number_then d 10)
 unfolding line
-line-long a b c d = simp length-append
+line_long a b c d = simp length-append
 
-pub fault-long : (a b c : ℕ) → length (fault-line a b c) ≡ 2 + length (number-then a 32) + length (number-then b 32) + length (number-then c 10)
-unfolding fault-line
-fault-long a b c = simp length-append
+pub fault_long : (a b c : ℕ) → length (fault_line a b c) ≡ 2 + length (number_then a 32) + length (number_then b 32) + length (number_then c 10)
+unfolding fault_line
+fault_long a b c = simp length-append
 
 -- a piece behind one that was put into the buffer
-pub put-on : (out mid end xs ys : List ℕ) (offset next : ℕ) → mid ≡ put out offset xs → end ≡ put mid next ys → next ≡ offset + length xs → offset + (length xs + length ys) ≤ length out → end ≡ put out offset (xs ++ ys)
-put-on out mid end xs ys offset next a b is room = b ∙ ap (λ l. put l next ys) a ∙ put-put out xs ys offset next is (omega arith)
+pub put_on : (out mid end xs ys : List ℕ) (offset next : ℕ) → mid ≡ put out offset xs → end ≡ put mid next ys → next ≡ offset + length xs → offset + (length xs + length ys) ≤ length out → end ≡ put out offset (xs ++ ys)
+put_on out mid end xs ys offset next a b is room = b ∙ ap (λ l. put l next ys) a ∙ put_put out xs ys offset next is (omega arith)

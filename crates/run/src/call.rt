@@ -1,17 +1,15 @@
 // One record's call, and its line.
-ghost use mathlib.Core.Path.{_≡_};
-ghost use Prim.Native.Nat.{_≤_};
-ghost use lib.ListN.{length};
-ghost use Rattle·tallies.specs.Traffic.{most-octets};
-ghost use Rattle·book.specs.Books.{Book};
-ghost use Rattle·table.specs.Requests.{asked};
-ghost use Rattle·table.specs.Tables.{Keeps};
-ghost use Rattle·run·specs.Called.{Called};
-ghost use Rattle·run·specs.Printed.{call-for, figures-after, lent};
+ghost use Rattle.std.specs.Prelude.{◌≡◌, ◌≤◌, length};
+ghost use Rattle.tallies.specs.Traffic.{most_octets};
+ghost use Rattle.book.specs.Books.{Book};
+ghost use Rattle.table.specs.Requests.{asked};
+ghost use Rattle.table.specs.Tables.{Keeps};
+ghost use Rattle.run.specs.Called.{Called};
+ghost use Rattle.run.specs.Printed.{call_for, figures_after, lent};
+
 use crate::figured::Figured;
 use crate::lines::Line;
-use paper::record::Call;
-use paper::record::Record;
+use paper::record::{Call, Record};
 use rules::rule::Rule;
 use table::request::Request;
 use table::table::Table;
@@ -21,7 +19,7 @@ pub(crate) const WORDS: usize = 512;
 
 // What a record asks of the table.
 fn request_of<'k, T: Figured>(record: &'k Record) -> Request<'k, T>
-    ensures { λ r. ⌜ asked lent r ≡ call-for (T·Figured .figuring) (now («record» .entry)) ⌝ }
+    ensures { asked lent result ≡ call_for T.Figured.figuring «record».now }
 {
     let key = &record.key;
     match record.call {
@@ -47,8 +45,8 @@ fn figures_after<T: Figured + Copy, R: Rule>(
     rule: &R,
     record: &Record,
 ) -> (u32, u64)
-    ensures { λ r. ⌜ ((b : Book T) → Keeps (T·Tally .kind) (now (table .entry)) b →
-        (r ≡ figures-after (R·Rule .meaning (now (rule .entry))) (T·Figured .figuring) b (now («record» .entry))) × (r .1 ≤ most-octets)) ⌝ }
+    ensures { (b : Book T) → Keeps T.Tally.kind table.now b →
+        (result ≡ figures_after (R.Rule.meaning rule.now) T.Figured.figuring b «record».now) × (result.1 ≤ most_octets) }
 {
     match record.call {
         Call::Widen | Call::Narrow => {
@@ -72,9 +70,9 @@ pub(crate) fn call_line<T: Figured + Copy, R: Rule>(
     words: &mut [u32],
     place: u64,
 ) -> Line
-    requires { ⌜ length (now words) ≡ lent ⌝ }
-    ensures { λ l. ⌜ ((b : Book T) → Keeps (T·Tally .kind) (now (table .entry)) b →
-        Called (T·Tally .kind) (R·Rule .meaning (now (rule .entry))) (T·Figured .figuring) b place (now («record» .entry)) l (now (table .exit))) ⌝ }
+    requires { length words.old ≡ lent }
+    ensures { (b : Book T) → Keeps T.Tally.kind table.old b →
+        Called T.Tally.kind (R.Rule.meaning rule.now) T.Figured.figuring b place «record».now result table.new }
 {
     let request = request_of(record);
     let answer = table.call(rule, &request, words);

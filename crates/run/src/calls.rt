@@ -1,16 +1,12 @@
 // All calls of a paper, and their lines.
-ghost use mathlib.Core.Path.{_≡_};
-ghost use mathlib.Core.Bool.{true};
-ghost use Prim.Native.Nat.{_*_, _≤_};
-ghost use lib.ListN.{length};
-ghost use Rattle·std.specs.Results.{isOk};
-ghost use Rattle·numbers.specs.Buffers.{put};
-ghost use Rattle·seats.specs.Shapes.{size};
-ghost use Rattle·paper.specs.Checks.{paper-checked};
-ghost use Rattle·paper.specs.Reading.{paper-records};
-ghost use Rattle·run·specs.Printed.{first-lines, most-printed};
-use crate::call::WORDS;
-use crate::call::call_line;
+ghost use Rattle.std.specs.Prelude.{◌≡◌, ◌*◌, ◌≤◌, true, length, is_ok};
+ghost use Rattle.numbers.specs.Buffers.{put};
+ghost use Rattle.seats.specs.Shapes.{size};
+ghost use Rattle.paper.specs.Checks.{paper_checked};
+ghost use Rattle.paper.specs.Reading.{paper_records};
+ghost use Rattle.run.specs.Printed.{first_lines, most_printed};
+
+use crate::call::{WORDS, call_line};
 use crate::figured::Figured;
 use crate::lines::write_line;
 use paper::reader::Reader;
@@ -28,12 +24,12 @@ pub(crate) fn write_lines<T: Figured + Copy, R: Rule>(
     paper: &[u8],
     out: &mut [u8],
 ) -> usize
-    requires seats { ⌜ shape .buckets * shape .most ≡ length (now seats) ⌝ }
-    requires sound { ⌜ isOk (paper-checked (now paper)) ≡ true ⌝ }
-    requires room { ⌜ most-printed ≤ length (now out) ⌝ }
-    ensures next { λ r. ⌜ r ≡ length (first-lines (T·Tally .kind) (R·Rule .meaning (now (rule .entry))) (T·Figured .figuring) (size shape) (paper-records (now (paper .entry)))) ⌝ }
-    ensures few { λ r. ⌜ r ≤ most-printed ⌝ }
-    ensures after { λ _. ⌜ now (out .exit) ≡ put (now (out .entry)) 0 (first-lines (T·Tally .kind) (R·Rule .meaning (now (rule .entry))) (T·Figured .figuring) (size shape) (paper-records (now (paper .entry)))) ⌝ }
+    requires seats { shape.buckets * shape.most ≡ length seats.old }
+    requires sound { is_ok (paper_checked paper.now) ≡ true }
+    requires room { most_printed ≤ length out.old }
+    ensures next { result ≡ length (first_lines T.Tally.kind (R.Rule.meaning rule.now) T.Figured.figuring (size shape) (paper_records paper.now)) }
+    ensures few { result ≤ most_printed }
+    ensures after { out.new ≡ put out.old 0 (first_lines T.Tally.kind (R.Rule.meaning rule.now) T.Figured.figuring (size shape) (paper_records paper.now)) }
 {
     let mut table = Table::open(seats, shape);
     let mut reader = Reader::new(paper);

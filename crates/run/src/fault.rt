@@ -1,10 +1,8 @@
-ghost use mathlib.Core.Path.{_≡_};
-ghost use Rattle·run·specs.declared.fault.RunFault.the-variants.{InPaper};
-ghost use Rattle·run·specs.Faults.{figures-of};
+ghost use Rattle.std.specs.Prelude.{◌≡◌};
+ghost use Rattle.run.specs.declared.fault.RunFault.TheVariants.{InPaper};
+ghost use Rattle.run.specs.Faults.{figures_of};
+
 use paper::fault::PaperFault;
-use paper::fault::PaperFaultDebug;
-use paper::fault::PaperFaultEq;
-use paper::fault::PaperFaultPartialEq;
 
 // Why a paper is not run.
 #[derive(Clone, Copy, PartialEq, Eq, Debug)]
@@ -18,7 +16,7 @@ pub enum RunFault {
 impl RunFault {
     // The fault's number, the block that it is found in, from 0, and the record, from 1, or 0 where none is meant.
     pub fn figures(self) -> (u8, u8, u8)
-        ensures { λ r. ⌜ r ≡ figures-of self ⌝ }
+        ensures { result ≡ figures_of self }
     {
         match self {
             RunFault::Room => (13, 0, 0),
@@ -27,8 +25,8 @@ impl RunFault {
     }
 }
 
-pub impl From<PaperFault> for RunFault as RunFromPaper {
-    ghost converts = { λ e r. r ≡ InPaper e };
+impl From<PaperFault> for RunFault {
+    ghost from_gives = { λ e r. r ≡ InPaper e };
 
     fn from(e: PaperFault) -> RunFault {
         RunFault::InPaper(e)

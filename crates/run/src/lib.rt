@@ -1,4 +1,6 @@
 // Papers run on a table of their own, and what is printed of their calls.
+#![tactic(auto)]
+
 mod call;
 mod calls;
 pub mod fault;

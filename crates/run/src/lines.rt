@@ -1,9 +1,8 @@
 // Printed lines, into a lent buffer.
-ghost use mathlib.Core.Path.{_≡_};
-ghost use Prim.Native.Nat.{_+_, _≤_};
-ghost use lib.ListN.{length};
-ghost use Rattle·numbers.specs.Buffers.{put};
-ghost use Rattle·run·specs.Lines.{number-then, line as line-bytes, fault-line};
+ghost use Rattle.std.specs.Prelude.{◌≡◌, ◌+◌, ◌≤◌, length};
+ghost use Rattle.numbers.specs.Buffers.{put};
+ghost use Rattle.run.specs.Lines.{number_then, line as line_bytes, fault_line};
+
 use numbers::decimal::write_decimal;
 
 // What is printed of a call: its place in the paper, from 1, the number of its refusal, or 0, and two figures.
@@ -17,9 +16,9 @@ pub(crate) struct Line {
 
 // Writes a number and a byte behind it, and gives the offset after them.
 fn write_number_then(out: &mut [u8], offset: usize, n: u64, end: u8) -> usize
-    requires { ⌜ offset + length (number-then n end) ≤ length (now out) ⌝ }
-    ensures next { λ r. ⌜ r ≡ offset + length (number-then n end) ⌝ }
-    ensures after { λ _. ⌜ now (out .exit) ≡ put (now (out .entry)) offset (number-then n end) ⌝ }
+    requires { offset + length (number_then n end) ≤ length out.old }
+    ensures next { result ≡ offset + length (number_then n end) }
+    ensures after { out.new ≡ put out.old offset (number_then n end) }
 {
     let last = write_decimal(out, offset, n);
     out[last] = end;
@@ -28,9 +27,9 @@ fn write_number_then(out: &mut [u8], offset: usize, n: u64, end: u8) -> usize
 
 // Writes the line of a call, and gives the offset after it.
 pub(crate) fn write_line(out: &mut [u8], offset: usize, line: Line) -> usize
-    requires { ⌜ offset + length (line-bytes (line .place) (line .number) (line .first) (line .second)) ≤ length (now out) ⌝ }
-    ensures next { λ r. ⌜ r ≡ offset + length (line-bytes (line .place) (line .number) (line .first) (line .second)) ⌝ }
-    ensures after { λ _. ⌜ now (out .exit) ≡ put (now (out .entry)) offset (line-bytes (line .place) (line .number) (line .first) (line .second)) ⌝ }
+    requires { offset + length (line_bytes line.place line.number line.first line.second) ≤ length out.old }
+    ensures next { result ≡ offset + length (line_bytes line.place line.number line.first line.second) }
+    ensures after { out.new ≡ put out.old offset (line_bytes line.place line.number line.first line.second) }
 {
     let offset = write_number_then(out, offset, line.place, b' ');
     let offset = write_number_then(out, offset, line.number, b' ');
@@ -40,9 +39,9 @@ pub(crate) fn write_line(out: &mut [u8], offset: usize, line: Line) -> usize
 
 // Writes the line of a fault at the buffer's start, by its number, its block and its record, and gives the offset after it.
 pub(crate) fn write_fault(out: &mut [u8], number: u64, block: u64, record: u64) -> usize
-    requires { ⌜ length (fault-line number block «record») ≤ length (now out) ⌝ }
-    ensures next { λ r. ⌜ r ≡ length (fault-line number block «record») ⌝ }
-    ensures after { λ _. ⌜ now (out .exit) ≡ put (now (out .entry)) 0 (fault-line number block «record») ⌝ }
+    requires { length (fault_line number block «record») ≤ length out.old }
+    ensures next { result ≡ length (fault_line number block «record») }
+    ensures after { out.new ≡ put out.old 0 (fault_line number block «record») }
 {
     out[0] = b'F';
     out[1] = b' ';

@@ -1,17 +1,11 @@
 // What is printed of a paper.
-ghost use mathlib.Core.Path.{_≡_};
-ghost use mathlib.Core.Bool.{cond, true};
-ghost use Prim.Native.Nat.{_≤_};
-ghost use lib.Dec.{ltb};
-ghost use lib.ListN.{length};
-ghost use Rattle·std.specs.Results.{isOk};
-ghost use Rattle·std.specs.declared.result.Result.the-variants.{Ok as Done, Err as Not-done};
-ghost use Rattle·numbers.specs.Buffers.{put};
-ghost use Rattle·run·specs.declared.fault.RunFault.the-variants.{Room as No-room};
-ghost use Rattle·run·specs.Printed.{most-printed, printed};
-ghost use Rattle·run·specs.Runs.{header-for};
+ghost use Rattle.std.specs.Prelude.{◌≡◌, ◌≤◌, true, length, is_ok, if◌then◌else◌, Ok as Done, Err as NotDone, nat_lt};
+ghost use Rattle.numbers.specs.Buffers.{put};
+ghost use Rattle.run.specs.declared.fault.RunFault.TheVariants.{Room as NoRoom};
+ghost use Rattle.run.specs.Printed.{most_printed, printed};
+ghost use Rattle.run.specs.Runs.{header_for};
+
 use crate::fault::RunFault;
-use crate::fault::RunFromPaper;
 use crate::lines::write_fault;
 use crate::table_of::write_by_kind;
 use paper::check::check_paper;
@@ -22,14 +16,14 @@ const MOST_PRINTED: usize = 68_400;
 
 // The most bytes that are printed of a paper. A shorter buffer is refused.
 pub fn most_printed() -> usize
-    ensures { λ r. ⌜ r ≡ 68400 ⌝ }
+    ensures { result ≡ 68400 }
 {
     MOST_PRINTED
 }
 
 // The header of a paper that is sound, where there is room for its lines.
 fn header_to_run(paper: &[u8], room: usize) -> Result<Header, RunFault>
-    ensures { λ r. ⌜ r ≡ header-for (now (paper .entry)) room ⌝ }
+    ensures { result ≡ header_for paper.now room }
 {
     if room < most_printed() {
         return Err(RunFault::Room);
@@ -41,9 +35,9 @@ fn header_to_run(paper: &[u8], room: usize) -> Result<Header, RunFault>
 // Runs a paper on a table of its own, and prints a line for each call into the buffer, or the one line of the paper's fault.
 // Gives how many bytes are printed; those behind them stay. A buffer shorter than the most is refused, and stays as it was.
 pub fn print_paper(paper: &[u8], out: &mut [u8]) -> Result<usize, RunFault>
-    ensures answer { λ r. ⌜ r ≡ cond (ltb (length (now (out .entry))) most-printed) (Not-done No-room) (Done (length (printed (now (paper .entry))))) ⌝ }
-    ensures few { λ r. ⌜ (isOk r ≡ true → length (printed (now (paper .entry))) ≤ most-printed) ⌝ }
-    ensures after { λ _. ⌜ now (out .exit) ≡ cond (ltb (length (now (out .entry))) most-printed) (now (out .entry)) (put (now (out .entry)) 0 (printed (now (paper .entry)))) ⌝ }
+    ensures answer { result ≡ (if nat_lt (length out.old) most_printed then NotDone NoRoom else Done (length (printed paper.now))) }
+    ensures few { is_ok result ≡ true → length (printed paper.now) ≤ most_printed }
+    ensures after { out.new ≡ (if nat_lt (length out.old) most_printed then out.old else put out.old 0 (printed paper.now)) }
 {
     match header_to_run(paper, out.len()) {
         Ok(header) => Ok(write_by_kind(header, paper, out)),

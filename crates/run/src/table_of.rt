@@ -1,43 +1,34 @@
 // The table that a paper's header asks for: its shape, its rule, and its kind with the seats.
-ghost use mathlib.Core.Path.{_≡_};
-ghost use mathlib.Core.Bool.{true};
-ghost use Prim.Native.Nat.{_*_, _≤_};
-ghost use lib.ListN.{length};
-ghost use Rattle·std.specs.declared.result.Result.the-variants.{Ok as Sound};
-ghost use Rattle·numbers.specs.Buffers.{put};
-ghost use Rattle·tallies.specs.Replicas.{replicas-kind};
-ghost use Rattle·tallies.specs.Traffic.{traffic-kind};
-ghost use Rattle·seats.specs.Shapes.{size};
-ghost use Rattle·paper.specs.Checks.{paper-checked};
-ghost use Rattle·paper.specs.Headers.{header-fits};
-ghost use Rattle·paper.specs.Reading.{paper-records};
-ghost use Rattle·run·specs.Figures.{replicas-figuring, traffic-figuring};
-ghost use Rattle·run·specs.Printed.{all-lines, first-lines, most-printed, rule-of, size-of};
+ghost use Rattle.std.specs.Prelude.{◌≡◌, ◌*◌, ◌≤◌, true, length, Ok as Sound};
+ghost use Rattle.numbers.specs.Buffers.{put};
+ghost use Rattle.tallies.specs.Replicas.{replicas_kind};
+ghost use Rattle.tallies.specs.Traffic.{traffic_kind};
+ghost use Rattle.seats.specs.Shapes.{size};
+ghost use Rattle.paper.specs.Checks.{paper_checked};
+ghost use Rattle.paper.specs.Headers.{header_fits};
+ghost use Rattle.paper.specs.Reading.{paper_records};
+ghost use Rattle.run.specs.Figures.{replicas_figuring, traffic_figuring};
+ghost use Rattle.run.specs.Printed.{all_lines, first_lines, most_printed, rule_of, size_of};
+
 use crate::calls::write_lines;
 use crate::figured::Figured;
-use crate::figured::ReplicasFigured;
-use crate::figured::TrafficFigured;
 use paper::header::Header;
 use rules::fnv::Fnv;
-use rules::fnv::FnvRule;
 use rules::plain_number::PlainNumber;
-use rules::plain_number::PlainNumberRule;
 use rules::rule::Rule;
 use seats::seat::Seat;
 use seats::shape::Shape;
 use tallies::replicas::Replicas;
-use tallies::replicas::ReplicasTally;
 use tallies::tally::Tally;
 use tallies::traffic::Traffic;
-use tallies::traffic::TrafficTally;
 
 // The seats of the largest table that a header may ask for.
 const SEATS: usize = 2048;
 
 // The shape that a fit header asks for.
 fn shape_of(header: Header) -> Shape
-    requires { ⌜ header-fits header ≡ true ⌝ }
-    ensures { λ r. ⌜ size r ≡ size-of header ⌝ }
+    requires { header_fits header ≡ true }
+    ensures { size result ≡ size_of header }
 {
     Shape {
         buckets: u32::from(header.buckets),
@@ -53,15 +44,15 @@ fn write_by_rule<T: Figured + Copy>(
     paper: &[u8],
     out: &mut [u8],
 ) -> usize
-    requires seats { ⌜ header .buckets * header .most ≡ length (now seats) ⌝ }
-    requires sound { ⌜ paper-checked (now paper) ≡ Sound header ⌝ }
-    requires room { ⌜ most-printed ≤ length (now out) ⌝ }
-    ensures next { λ r. ⌜ r ≡ length (first-lines (T·Tally .kind) (rule-of header) (T·Figured .figuring) (size-of header) (paper-records (now (paper .entry)))) ⌝ }
-    ensures few { λ r. ⌜ r ≤ most-printed ⌝ }
-    ensures after { λ _. ⌜ now (out .exit) ≡ put (now (out .entry)) 0 (first-lines (T·Tally .kind) (rule-of header) (T·Figured .figuring) (size-of header) (paper-records (now (paper .entry)))) ⌝ }
+    requires seats { header.buckets * header.most ≡ length seats.old }
+    requires sound { paper_checked paper.now ≡ Sound header }
+    requires room { most_printed ≤ length out.old }
+    ensures next { result ≡ length (first_lines T.Tally.kind (rule_of header) T.Figured.figuring (size_of header) (paper_records paper.now)) }
+    ensures few { result ≤ most_printed }
+    ensures after { out.new ≡ put out.old 0 (first_lines T.Tally.kind (rule_of header) T.Figured.figuring (size_of header) (paper_records paper.now)) }
 {
     let shape = shape_of(header);
-    if header.rule == PlainNumberRule::rule_number() {
+    if header.rule == <PlainNumber as Rule>::rule_number() {
         write_lines(seats, shape, &PlainNumber, paper, out)
     } else {
         write_lines(seats, shape, &Fnv, paper, out)
@@ -70,11 +61,11 @@ fn write_by_rule<T: Figured + Copy>(
 
 // The lines of a sound paper of replicas, on seats of its own.
 fn write_replicas(header: Header, paper: &[u8], out: &mut [u8]) -> usize
-    requires sound { ⌜ paper-checked (now paper) ≡ Sound header ⌝ }
-    requires room { ⌜ most-printed ≤ length (now out) ⌝ }
-    ensures next { λ r. ⌜ r ≡ length (first-lines replicas-kind (rule-of header) replicas-figuring (size-of header) (paper-records (now (paper .entry)))) ⌝ }
-    ensures few { λ r. ⌜ r ≤ most-printed ⌝ }
-    ensures after { λ _. ⌜ now (out .exit) ≡ put (now (out .entry)) 0 (first-lines replicas-kind (rule-of header) replicas-figuring (size-of header) (paper-records (now (paper .entry)))) ⌝ }
+    requires sound { paper_checked paper.now ≡ Sound header }
+    requires room { most_printed ≤ length out.old }
+    ensures next { result ≡ length (first_lines replicas_kind (rule_of header) replicas_figuring (size_of header) (paper_records paper.now)) }
+    ensures few { result ≤ most_printed }
+    ensures after { out.new ≡ put out.old 0 (first_lines replicas_kind (rule_of header) replicas_figuring (size_of header) (paper_records paper.now)) }
 {
     let seat = Seat {
         carry: 0,
@@ -88,11 +79,11 @@ fn write_replicas(header: Header, paper: &[u8], out: &mut [u8]) -> usize
 
 // The lines of a sound paper of traffic, on seats of its own.
 fn write_traffic(header: Header, paper: &[u8], out: &mut [u8]) -> usize
-    requires sound { ⌜ paper-checked (now paper) ≡ Sound header ⌝ }
-    requires room { ⌜ most-printed ≤ length (now out) ⌝ }
-    ensures next { λ r. ⌜ r ≡ length (first-lines traffic-kind (rule-of header) traffic-figuring (size-of header) (paper-records (now (paper .entry)))) ⌝ }
-    ensures few { λ r. ⌜ r ≤ most-printed ⌝ }
-    ensures after { λ _. ⌜ now (out .exit) ≡ put (now (out .entry)) 0 (first-lines traffic-kind (rule-of header) traffic-figuring (size-of header) (paper-records (now (paper .entry)))) ⌝ }
+    requires sound { paper_checked paper.now ≡ Sound header }
+    requires room { most_printed ≤ length out.old }
+    ensures next { result ≡ length (first_lines traffic_kind (rule_of header) traffic_figuring (size_of header) (paper_records paper.now)) }
+    ensures few { result ≤ most_printed }
+    ensures after { out.new ≡ put out.old 0 (first_lines traffic_kind (rule_of header) traffic_figuring (size_of header) (paper_records paper.now)) }
 {
     let seat = Seat {
         carry: 0,
@@ -109,13 +100,13 @@ fn write_traffic(header: Header, paper: &[u8], out: &mut [u8]) -> usize
 
 // The lines of a sound paper, in its header's kind.
 pub(crate) fn write_by_kind(header: Header, paper: &[u8], out: &mut [u8]) -> usize
-    requires sound { ⌜ paper-checked (now paper) ≡ Sound header ⌝ }
-    requires room { ⌜ most-printed ≤ length (now out) ⌝ }
-    ensures next { λ r. ⌜ r ≡ length (all-lines header (paper-records (now (paper .entry)))) ⌝ }
-    ensures few { λ r. ⌜ r ≤ most-printed ⌝ }
-    ensures after { λ _. ⌜ now (out .exit) ≡ put (now (out .entry)) 0 (all-lines header (paper-records (now (paper .entry)))) ⌝ }
+    requires sound { paper_checked paper.now ≡ Sound header }
+    requires room { most_printed ≤ length out.old }
+    ensures next { result ≡ length (all_lines header (paper_records paper.now)) }
+    ensures few { result ≤ most_printed }
+    ensures after { out.new ≡ put out.old 0 (all_lines header (paper_records paper.now)) }
 {
-    if header.kind == ReplicasTally::kind_number() {
+    if header.kind == <Replicas as Tally>::kind_number() {
         write_replicas(header, paper, out)
     } else {
         write_traffic(header, paper, out)

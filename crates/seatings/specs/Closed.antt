@@ -1,8 +1,6 @@
 -- Full and closed sets of buckets. Assumes nothing.
-use mathlib.Core.Bool.{Bool, true, false}
-use mathlib.Core.Path.{_≡_}
-use Prim.Native.Nat.{ℕ, _*_, _/_, _%_, _≤_, _<_}
-use Rattle·seatings·specs.Seatings.{bucket, load}
+use Rattle.std.specs.Prelude.{◌≡◌, ℕ, ◌*◌, ◌/◌, ◌%◌, ◌<◌, ◌≤◌, Bool, true, false}
+use Rattle.seatings.specs.Seatings.{bucket, load}
 
 -- the held fingerprints sit where the choice says, and V is a set of buckets that is full, with b or more in each,
 -- and closed: what sits there can sit only there, and so can f, which is not held

@@ -1,6 +1,5 @@
 -- How many numbers pass a test. Assumes nothing.
-use mathlib.Core.Bool.{Bool, true, false}
-use Prim.Native.Nat.{ℕ, zero, suc, _+_}
+use Rattle.std.specs.Prelude.{ℕ, zero, suc, ◌+◌, Bool, true, false}
 
 -- 1 where a test passes, and 0 where it fails
 abbrev pub bit : Bool → ℕ

@@ -1,78 +1,72 @@
 -- Which seats a fingerprint sits in. Assumes nothing.
-use mathlib.Core.Path.{refl, sym, ap, _∙_}
-use mathlib.Core.Bool.{Bool, true, false}
-use mathlib.Core.List.{List}
-use mathlib.Core.Logic.{⊎-elim}
-use Prim.Native.Nat.{ℕ, _+_, _-_, _*_, _/_, _%_, _<_, _≤_}
-use native.Mathlib.Omega.{arith}
-use lib.ListN.{length}
-use Rattle·std.proofs.shelf.Bits.{div-below, mod-below, mul-le}
-use Rattle·std.proofs.shelf.Lists.{getD-past}
-use Rattle·std.proofs.shelf.Tests.{cases-lt}
-use Rattle·seats·specs.declared.seat.Seat.{Seat}
-use Rattle·seats·specs.declared.shape.Shape.{Shape}
-use Rattle·seats·specs.Shapes.{Size, Sound, size, with-rows}
-use Rattle·seats·specs.Places.{place-of}
-use Rattle·seats·specs.Seats.{at, vacant, Filled, Holds, Lies, Sits}
+use Rattle.std.proofs.Common.{ℕ, ◌+◌, ◌-◌, ◌*◌, ◌/◌, ◌%◌, ◌<◌, ◌≤◌, Bool, true, false, List, length, sym, refl, ap, ◌∙◌, ⊎_elim, arith}
+use Rattle.std.proofs.lemmas.Nat.{div_below, mod_below, mul-le}
+use Rattle.std.proofs.lemmas.List.{get_or_past}
+use Rattle.std.proofs.lemmas.Bool.{cases_lt}
+use Rattle.seats.specs.declared.seat.Seat.{Seat}
+use Rattle.seats.specs.declared.shape.Shape.{Shape}
+use Rattle.seats.specs.Shapes.{Size, Sound, size, with_rows}
+use Rattle.seats.specs.Places.{place_of}
+use Rattle.seats.specs.Seats.{at, vacant, Filled, Holds, Lies, Sits}
 
 -- the numbers of a shape are within their limits
-pub shape-sound : (s : Shape) → Sound (size s)
-shape-sound s = record { some = s .ok .0; few = s .ok .1; used = s .ok .2; within = s .ok .3; narrow = s .ok .4; small = omega arith }
+pub shape_sound : (s : Shape) → Sound (size s)
+shape_sound s = record { some = s.ok.0; few = s.ok.1; used = s.ok.2; within = s.ok.3; narrow = s.ok.4; small = omega arith }
 
 -- a filled seat is one of the seats
-pub filled-inside : {X : Type 0} (e : X) (seats : List (Seat X)) (i : ℕ) → Filled e seats i → i < length seats
-filled-inside e seats i filled =
-    ⊎-elim (λ lt. lt) (λ past. absurd (filled (ap (λ (s : Seat _). s .tally) (getD-past seats i (vacant e) past)))) (cases-lt i (length seats))
+pub filled_inside : {X : Type 0} (e : X) (seats : List (Seat X)) (i : ℕ) → Filled e seats i → i < length seats
+filled_inside e seats i filled =
+    ⊎_elim (λ lt. lt) (λ past. absurd (filled (ap (λ (s : Seat _). s.tally) (get_or_past seats i (vacant e) past)))) (cases_lt i (length seats))
 
 -- what sits in a row sits there also with other rows in use, if the row is one of them
-abbrev pub sits-in-rows : {X : Type 0} (e : X) (seats : List (Seat X)) (z : Size) (rows f i : ℕ) (s : Sits e seats z f i) → s .row < rows → Sits e seats (with-rows z rows) f i
-sits-in-rows e seats z rows f i s low = record {
-  bucket = s .bucket;
-  row = s .row;
-  in-table = s .in-table;
-  in-rows = low;
-  lies = s .lies;
-  filled = s .filled;
-  home = s .home;
-  carried = s .carried;
-  below = s .below;
+abbrev pub sits_in_rows : {X : Type 0} (e : X) (seats : List (Seat X)) (z : Size) (rows f i : ℕ) (s : Sits e seats z f i) → s.row < rows → Sits e seats (with_rows z rows) f i
+sits_in_rows e seats z rows f i s low = record {
+  bucket = s.bucket;
+  row = s.row;
+  in_table = s.in_table;
+  in_rows = low;
+  lies = s.lies;
+  filled = s.filled;
+  home = s.home;
+  carried = s.carried;
+  below = s.below;
 }
 
 -- the buckets and the carries of a fingerprint's places are buckets
-module _ {z : Size} (sound : Sound z) (f : ℕ) (below : f < z .range) where
-  quotient-below : f / z .buckets < z .buckets
-  quotient-below =
-      let square : z .buckets * (z .buckets - 1) ≤ z .buckets * z .buckets = mul-le (z .buckets) (z .buckets - 1) (z .buckets) (z .buckets) (omega arith) (omega arith) in
-      div-below f (z .buckets) (z .buckets) (omega (arith, sound .some)) (omega (arith, sound .small))
+module _ {z : Size} (sound : Sound z) (f : ℕ) (below : f < z.range) where
+  quotient_below : f / z.buckets < z.buckets
+  quotient_below =
+      let square : z.buckets * (z.buckets - 1) ≤ z.buckets * z.buckets = mul-le z.buckets (z.buckets - 1) z.buckets z.buckets (omega arith) (omega arith) in
+      div_below f z.buckets z.buckets (omega (arith, sound.some)) (omega (arith, sound.small))
 
-  remainder-below : f % z .buckets < z .buckets
-  remainder-below = mod-below f (z .buckets) (omega (arith, sound .some))
+  remainder_below : f % z.buckets < z.buckets
+  remainder_below = mod_below f z.buckets (omega (arith, sound.some))
 
-  pub bucket-below : (flag : Bool) → place-of (z .buckets) f flag .bucket < z .buckets
-  bucket-below true = quotient-below
-  bucket-below false = remainder-below
+  pub bucket_below : (flag : Bool) → (place_of z.buckets f flag).bucket < z.buckets
+  bucket_below true = quotient_below
+  bucket_below false = remainder_below
 
-  pub carry-below : (flag : Bool) → place-of (z .buckets) f flag .carry < z .buckets
-  carry-below true = remainder-below
-  carry-below false = quotient-below
+  pub carry_below : (flag : Bool) → (place_of z.buckets f flag).carry < z.buckets
+  carry_below true = remainder_below
+  carry_below false = quotient_below
 
   -- a seat that holds one of the fingerprint's places, in the rows in use of its bucket
-  pub sits-by : {X : Type 0} (e : X) (seats : List (Seat X)) (flag : Bool) (i : ℕ) → Lies z (place-of (z .buckets) f flag .bucket) i → Holds e seats (place-of (z .buckets) f flag) i → Sits e seats z f i
-  sits-by e seats flag i (row, low, lies) (carry, is, filled) = record {
-    bucket = place-of (z .buckets) f flag .bucket;
+  pub sits_by : {X : Type 0} (e : X) (seats : List (Seat X)) (flag : Bool) (i : ℕ) → Lies z (place_of z.buckets f flag).bucket i → Holds e seats (place_of z.buckets f flag) i → Sits e seats z f i
+  sits_by e seats flag i (row, low, lies) (carry, is, filled) = record {
+    bucket = (place_of z.buckets f flag).bucket;
     row = row;
-    in-table = bucket-below flag;
-    in-rows = low;
+    in_table = bucket_below flag;
+    in_rows = low;
     lies = lies;
     filled = filled;
-    home = ap (λ b. place-of (z .buckets) f b .bucket) (sym is);
-    carried = carry ∙ ap (λ b. place-of (z .buckets) f b .carry) (sym is);
+    home = ap (λ b. (place_of z.buckets f b).bucket) (sym is);
+    carried = carry ∙ ap (λ b. (place_of z.buckets f b).carry) (sym is);
     below = below;
   }
 
 -- no seat, where none holds either place
-pub sits-nowhere : {X : Type 0} (e : X) (seats : List (Seat X)) (z : Size) (f : ℕ) →
-    ((flag : Bool) (i : ℕ) → Lies z (place-of (z .buckets) f flag .bucket) i → Holds e seats (place-of (z .buckets) f flag) i → ⊥) →
+pub sits_nowhere : {X : Type 0} (e : X) (seats : List (Seat X)) (z : Size) (f : ℕ) →
+    ((flag : Bool) (i : ℕ) → Lies z (place_of z.buckets f flag).bucket i → Holds e seats (place_of z.buckets f flag) i → ⊥) →
     (i : ℕ) → Sits e seats z f i → ⊥
-sits-nowhere e seats z f none i s =
-    none (at e seats i .flag) i (s .row, s .in-rows, s .lies ∙ ap (λ b. b * z .most + s .row) (s .home)) (s .carried, refl, s .filled)
+sits_nowhere e seats z f none i s =
+    none (at e seats i).flag i (s.row, s.in_rows, s.lies ∙ ap (λ b. b * z.most + s.row) s.home) (s.carried, refl, s.filled)

@@ -1,9 +1,8 @@
 // Finding a seat: the one that holds a fingerprint, or an empty one of a bucket.
-ghost use Prim.Native.Nat.{ℕ, _+_, _*_, _<_};
-ghost use Rattle·std.specs.Options.{Cases};
-ghost use Rattle·std.specs.Orderings.{Decides};
-ghost use Rattle·seats·specs.Shapes.{size};
-ghost use Rattle·seats·specs.Seats.{Free, FirstFree, Holds, Lies, Sits};
+ghost use Rattle.std.specs.Prelude.{ℕ, ◌+◌, ◌*◌, ◌<◌, Decides, MatchOption};
+ghost use Rattle.seats.specs.Shapes.{size};
+ghost use Rattle.seats.specs.Seats.{Free, FirstFree, Holds, Lies, Sits};
+
 use crate::place::Place;
 use crate::seat::Seat;
 use crate::shape::Shape;
@@ -11,7 +10,7 @@ use tallies::tally::Tally;
 
 // Whether there is a seat `i` that is filled, with the place's carry and flag.
 fn holds<T: Tally + Copy>(seats: &[Seat<T>], i: usize, place: Place) -> bool
-    ensures { λ r. ⌜ Decides r (Holds (T·Tally .kind .empty) (now (seats .entry)) place i) ⌝ }
+    ensures { Decides result (Holds T.Tally.kind.empty seats.now place i) }
 {
     if i >= seats.len() {
         return false;
@@ -21,9 +20,9 @@ fn holds<T: Tally + Copy>(seats: &[Seat<T>], i: usize, place: Place) -> bool
 
 // A seat among the rows in use of the place's bucket that is filled, with the place's carry and flag.
 fn scan<T: Tally + Copy>(seats: &[Seat<T>], shape: Shape, place: Place) -> Option<usize>
-    ensures { λ r. ⌜ Cases r
-        ((i : ℕ) → Lies (size shape) (place .bucket) i → Holds (T·Tally .kind .empty) (now (seats .entry)) place i → ⊥)
-        (λ i. Lies (size shape) (place .bucket) i × Holds (T·Tally .kind .empty) (now (seats .entry)) place i) ⌝ }
+    ensures { MatchOption result
+        ((i : ℕ) → Lies (size shape) place.bucket i → Holds T.Tally.kind.empty seats.now place i → ⊥)
+        (λ i. Lies (size shape) place.bucket i × Holds T.Tally.kind.empty seats.now place i) }
 {
     let first = place.bucket as usize * shape.most as usize;
     for row in 0..shape.rows as usize {
@@ -36,9 +35,9 @@ fn scan<T: Tally + Copy>(seats: &[Seat<T>], shape: Shape, place: Place) -> Optio
 
 // The seat that holds the fingerprint, looked for in both of its buckets.
 pub fn find<T: Tally + Copy>(seats: &[Seat<T>], shape: Shape, fingerprint: u32) -> Option<usize>
-    ensures { λ r. ⌜ Cases r
-        ((i : ℕ) → Sits (T·Tally .kind .empty) (now (seats .entry)) (size shape) fingerprint i → ⊥)
-        (λ i. Sits (T·Tally .kind .empty) (now (seats .entry)) (size shape) fingerprint i) ⌝ }
+    ensures { MatchOption result
+        ((i : ℕ) → Sits T.Tally.kind.empty seats.now (size shape) fingerprint i → ⊥)
+        (λ i. Sits T.Tally.kind.empty seats.now (size shape) fingerprint i) }
 {
     if fingerprint >= shape.range().get() {
         return None;
@@ -51,7 +50,7 @@ pub fn find<T: Tally + Copy>(seats: &[Seat<T>], shape: Shape, fingerprint: u32) 
 
 // Whether there is a seat `i` that is empty.
 fn is_free<T: Tally + Copy>(seats: &[Seat<T>], i: usize) -> bool
-    ensures { λ r. ⌜ Decides r (Free (T·Tally .kind .empty) (now (seats .entry)) i) ⌝ }
+    ensures { Decides result (Free T.Tally.kind.empty seats.now i) }
 {
     if i >= seats.len() {
         return false;
@@ -61,9 +60,9 @@ fn is_free<T: Tally + Copy>(seats: &[Seat<T>], i: usize) -> bool
 
 // The first empty seat among the rows in use of a bucket, if there is one.
 pub fn free_seat<T: Tally + Copy>(seats: &[Seat<T>], shape: Shape, bucket: u32) -> Option<usize>
-    ensures { λ r. ⌜ Cases r
-        ((i : ℕ) → Lies (size shape) bucket i → Free (T·Tally .kind .empty) (now (seats .entry)) i → ⊥)
-        (λ i. FirstFree (T·Tally .kind .empty) (now (seats .entry)) (size shape) bucket i) ⌝ }
+    ensures { MatchOption result
+        ((i : ℕ) → Lies (size shape) bucket i → Free T.Tally.kind.empty seats.now i → ⊥)
+        (λ i. FirstFree T.Tally.kind.empty seats.now (size shape) bucket i) }
 {
     let first = bucket as usize * shape.most as usize;
     for row in 0..shape.rows as usize {

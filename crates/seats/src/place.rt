@@ -1,6 +1,6 @@
-ghost use mathlib.Core.Path.{_≡_};
-ghost use Prim.Native.Nat.{_<_};
-ghost use Rattle·seats·specs.Places.{place-of, given-back};
+ghost use Rattle.std.specs.Prelude.{◌≡◌, ◌<◌};
+ghost use Rattle.seats.specs.Places.{place_of, given_back};
+
 use crate::shape::Shape;
 
 // A fingerprint's place in a bucket: at flag true the bucket is its quotient by the buckets and the carry its remainder,
@@ -15,8 +15,8 @@ pub struct Place {
 impl Shape {
     // The place of a fingerprint at this flag. It gives the fingerprint back.
     pub fn place(self, fingerprint: u32, flag: bool) -> Place
-        ensures value { λ r. ⌜ r ≡ place-of (self .buckets) fingerprint flag ⌝ }
-        ensures back { λ r. ⌜ given-back (self .buckets) r ≡ fingerprint ⌝ }
+        ensures value { result ≡ place_of self.buckets fingerprint flag }
+        ensures back { given_back self.buckets result ≡ fingerprint }
     {
         let quotient = fingerprint / self.buckets;
         let remainder = fingerprint % self.buckets;
@@ -38,8 +38,8 @@ impl Shape {
     // The number that a place gives back. If its bucket and carry are buckets, the place is that number's; it is a fingerprint
     // if it is below the range.
     pub fn given_back(self, place: Place) -> u64
-        ensures value { λ r. ⌜ r ≡ given-back (self .buckets) place ⌝ }
-        ensures place { λ r. ⌜ (place .bucket < self .buckets → place .carry < self .buckets → place-of (self .buckets) r (place .flag) ≡ place) ⌝ }
+        ensures value { result ≡ given_back self.buckets place }
+        ensures place { place.bucket < self.buckets → place.carry < self.buckets → place_of self.buckets result place.flag ≡ place }
     {
         let buckets = u64::from(self.buckets);
         if place.flag {

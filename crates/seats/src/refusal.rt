@@ -1,5 +1,5 @@
-ghost use mathlib.Core.Path.{_≡_};
-ghost use Rattle·seats·specs.Refusals.{refusal-number};
+ghost use Rattle.std.specs.Prelude.{◌≡◌};
+ghost use Rattle.seats.specs.Refusals.{refusal_number};
 
 // Why a call is turned away.
 #[derive(Clone, Copy, PartialEq, Eq, Debug)]
@@ -33,7 +33,7 @@ pub enum Refusal {
 impl Refusal {
     // The number by which answers name it.
     pub fn number(self) -> u8
-        ensures { λ r. ⌜ r ≡ refusal-number self ⌝ }
+        ensures { result ≡ refusal_number self }
     {
         match self {
             Refusal::Buckets => 1,

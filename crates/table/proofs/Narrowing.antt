@@ -1,141 +1,132 @@
 -- Narrowing. Assumes nothing.
-use mathlib.Core.Path.{_≡_, refl, sym, ap, subst, _∙_}
-use mathlib.Core.Bool.{Bool, true, false, cond, not}
-use mathlib.Core.Logic.{_⊎_, ⊎-elim}
-use Prim.Native.Nat.{ℕ, _+_, _-_, _*_, _<_, _≤_}
-use native.Mathlib.Omega.{arith}
-use lib.Dec.{eqb, ltb}
-use lib.ListN.{length}
-use denote.Ref.{now, name}
-use Rattle·std.proofs.shelf.Tests.{cases-eq, eq-eqb}
-use Rattle·std.proofs.iter.runs.Lists.{none-some, same-some}
-use Rattle·std.specs.declared.option.Option.{Option}
-use Rattle·std.specs.declared.option.Option.the-variants.{Some, None}
-use Rattle·tallies.specs.Kinds.{Kind}
-use Rattle·rules.specs.Rules.{Meaning}
-use Rattle·seatings.specs.Seatings.{seatable}
-use Rattle·seatings.proofs.Decided.{seatable-decides, unseatable}
-use Rattle·seats.specs.declared.refusal.Refusal.{Refusal}
-use Rattle·seats.specs.declared.refusal.Refusal.the-variants.{Seats, Words, RowLimit, NoNarrowSeating}
-use Rattle·seats.specs.declared.shape.Shape.{Shape}
-use Rattle·seats.specs.Shapes.{Size, Sound, size, with-rows}
-use Rattle·seats.specs.Seats.{Shows, at, vacant, held}
-use Rattle·seats.proofs.Sitting.{shape-sound}
-use Rattle·seats.proofs.Seated.{shows-seating}
-use Rattle·narrowing.specs.Narrowed.{narrow-refusal, narrower, Shifted, UnseatableBelow, Cleared}
-use Rattle·book.specs.declared.answer.Answer.{Answer}
-use Rattle·book.specs.declared.answer.Answer.the-variants.{Sized, Refused}
-use Rattle·book.specs.Books.{Book, Turn, narrow, too-few, has-slack, turned-away-if, turn, turned-away, resize, tells-rows}
-use Rattle·table·specs.declared.table.Table.{Table}
-use Rattle·table·specs.Untouched.{Untouched}
-use Rattle·table·specs.Tables.{Keeps, Did}
-use Rattle·table·proofs.Changing.{did-refused}
-use Rattle·table·proofs.Resizing.{keeps-resized, same-answer, sized-accepts}
+use Rattle.std.proofs.Common.{◌≡◌, ℕ, ◌+◌, ◌-◌, ◌*◌, ◌<◌, ◌≤◌, Bool, true, false, cond, not, eqb, ltb, ◌⊎◌, length, Some, None, Option, sym, refl, ap, ◌∙◌, subst, ⊎_elim, arith}
+use Rattle.std.proofs.lemmas.Bool.{cases_eq, eq-eqb}
+use Rattle.std.proofs.iter.runs.Lists.{none-some, same_Some}
+use Rattle.tallies.specs.Kinds.{Kind}
+use Rattle.rules.specs.Rules.{Meaning}
+use Rattle.seatings.specs.Seatings.{seatable}
+use Rattle.seatings.proofs.Decided.{seatable_decides, unseatable}
+use Rattle.seats.specs.declared.refusal.Refusal.{Refusal}
+use Rattle.seats.specs.declared.refusal.Refusal.TheVariants.{Seats, Words, RowLimit, NoNarrowSeating}
+use Rattle.seats.specs.declared.shape.Shape.{Shape}
+use Rattle.seats.specs.Shapes.{Size, Sound, size, with_rows}
+use Rattle.seats.specs.Seats.{Shows, at, vacant, held}
+use Rattle.seats.proofs.Sitting.{shape_sound}
+use Rattle.seats.proofs.Seated.{shows_seating}
+use Rattle.narrowing.specs.Narrowed.{narrow_refusal, narrower, Shifted, UnseatableBelow, Cleared}
+use Rattle.book.specs.declared.answer.Answer.{Answer}
+use Rattle.book.specs.declared.answer.Answer.TheVariants.{Sized, Refused}
+use Rattle.book.specs.Books.{Book, Turn, narrow, too_few, has_slack, turned_away_if, turn, turned_away, resize, tells_rows}
+use Rattle.table.specs.declared.table.Table.{Table}
+use Rattle.table.specs.Untouched.{Untouched}
+use Rattle.table.specs.Tables.{Keeps, Did}
+use Rattle.table.proofs.Changing.{did_refused}
+use Rattle.table.proofs.Resizing.{keeps_resized, same_answer, sized_accepts}
 
 -- the book's first checks are those of the call
 module _ {V : Type 0} (b : Book V) (rest : Turn V) where
   abbrev checks : Bool → Bool → Turn V
-  checks few more = turned-away-if b few Words (turned-away-if b (not more) RowLimit rest)
+  checks few more = turned_away_if b few Words (turned_away_if b (not more) RowLimit rest)
 
   abbrev bars : Bool → Bool → Bool → Option Refusal
   bars few more fits = cond few (Some Words) (cond (not more) (Some RowLimit) (cond (not fits) (Some Seats) None))
 
-  stopped-so : (few more fits : Bool) (why : Refusal) → fits ≡ true → bars few more fits ≡ Some why → checks few more ≡ turned-away b why
-  stopped-so true more fits why fit is = ap (turned-away b) (same-some Words why is)
-  stopped-so false false fits why fit is = ap (turned-away b) (same-some RowLimit why is)
-  stopped-so false true true why fit is = absurd (none-some why is)
-  stopped-so false true false why fit is = absurd (grind arith)
+  stopped_so : (few more fits : Bool) (why : Refusal) → fits ≡ true → bars few more fits ≡ Some why → checks few more ≡ turned_away b why
+  stopped_so true more fits why fit is = ap (turned_away b) (same_Some Words why is)
+  stopped_so false false fits why fit is = ap (turned_away b) (same_Some RowLimit why is)
+  stopped_so false true true why fit is = absurd (none-some why is)
+  stopped_so false true false why fit is = absurd (grind arith)
 
-  passed-so : (few more fits : Bool) → bars few more fits ≡ None → checks few more ≡ rest
-  passed-so true more fits is = absurd (none-some Words (sym is))
-  passed-so false false fits is = absurd (none-some RowLimit (sym is))
-  passed-so false true fits is = refl
+  passed_so : (few more fits : Bool) → bars few more fits ≡ None → checks few more ≡ rest
+  passed_so true more fits is = absurd (none-some Words (sym is))
+  passed_so false false fits is = absurd (none-some RowLimit (sym is))
+  passed_so false true fits is = refl
 
-module _ {V : Type 0} (k : Kind V) (rule : Meaning) (t u : Table V) (words : ℕ) (lent : name (u .seats) ≡ name (t .seats)) (count : u .held ≡ t .held) where
+module _ {V : Type 0} (k : Kind V) (rule : Meaning) (t u : Table V) (words : ℕ) (lent : u.seats.ghost_name ≡ t.seats.ghost_name) (count : u.held ≡ t.held) where
   abbrev z : Size
-  z = size (t .shape)
+  z = size t.shape
 
   abbrev stop : Option Refusal
-  stop = narrow-refusal z (length (now (t .seats))) words
+  stop = narrow_refusal z (length t.seats.now) words
 
   -- the book's own numbers stop the call alike
-  stop-is : (b : Book V) → Keeps k t b → bars b (turned-away b Words) (too-few b words) (ltb 1 (b .size .rows)) (eqb (length (now (t .seats))) (b .size .buckets * b .size .most)) ≡ stop
-  stop-is b keeps = ap (λ (y : Size). narrow-refusal y (length (now (t .seats))) words) (keeps .sized)
+  stop_is : (b : Book V) → Keeps k t b → bars b (turned_away b Words) (too_few b words) (ltb 1 b.size.rows) (eqb (length t.seats.now) (b.size.buckets * b.size.most)) ≡ stop
+  stop_is b keeps = ap (λ (y : Size). narrow_refusal y (length t.seats.now) words) keeps.sized
 
-  fits : (b : Book V) → Keeps k t b → eqb (length (now (t .seats))) (b .size .buckets * b .size .most) ≡ true
-  fits b keeps = eq-eqb (length (now (t .seats))) (b .size .buckets * b .size .most) (sym (keeps .room) ∙ ap (λ (y : Size). y .buckets * y .most) (sym (keeps .sized)))
+  fits : (b : Book V) → Keeps k t b → eqb (length t.seats.now) (b.size.buckets * b.size.most) ≡ true
+  fits b keeps = eq-eqb (length t.seats.now) (b.size.buckets * b.size.most) (sym keeps.room ∙ ap (λ (y : Size). y.buckets * y.most) (sym keeps.sized))
 
   abbrev rest : Book V → Turn V
-  rest b = turned-away-if b (not (has-slack b)) NoNarrowSeating (tells-rows (resize b (b .size .rows - 1)))
+  rest b = turned_away_if b (not (has_slack b)) NoNarrowSeating (tells_rows (resize b (b.size.rows - 1)))
 
-  slack-is : (b : Book V) → Keeps k t b → has-slack b ≡ seatable (z .buckets) (z .rows - 1) (z .range) (held (b .entries))
-  slack-is b keeps = ap (λ (y : Size). seatable (y .buckets) (y .rows - 1) (y .range) (held (b .entries))) (keeps .sized)
+  slack_is : (b : Book V) → Keeps k t b → has_slack b ≡ seatable z.buckets (z.rows - 1) z.range (held b.entries)
+  slack_is b keeps = ap (λ (y : Size). seatable y.buckets (y.rows - 1) y.range (held b.entries)) keeps.sized
 
-  by-slack : (b : Book V) (slack : Bool) → Keeps k t b → stop ≡ None → has-slack b ≡ slack → turn k rule b (narrow words) ≡ turned-away-if b (not slack) NoNarrowSeating (tells-rows (resize b (b .size .rows - 1)))
-  by-slack b slack keeps goes is =
-      passed-so b (rest b) (too-few b words) (ltb 1 (b .size .rows)) (eqb (length (now (t .seats))) (b .size .buckets * b .size .most)) (stop-is b keeps ∙ goes)
-      ∙ ap (λ x. turned-away-if b (not x) NoNarrowSeating (tells-rows (resize b (b .size .rows - 1)))) is
+  by_slack : (b : Book V) (slack : Bool) → Keeps k t b → stop ≡ None → has_slack b ≡ slack → turn k rule b (narrow words) ≡ turned_away_if b (not slack) NoNarrowSeating (tells_rows (resize b (b.size.rows - 1)))
+  by_slack b slack keeps goes is =
+      passed_so b (rest b) (too_few b words) (ltb 1 b.size.rows) (eqb (length t.seats.now) (b.size.buckets * b.size.most)) (stop_is b keeps ∙ goes)
+      ∙ ap (λ x. turned_away_if b (not x) NoNarrowSeating (tells_rows (resize b (b.size.rows - 1)))) is
 
   -- turned away at once
-  pub narrow-stopped : (why : Refusal) → stop ≡ Some why → now (u .seats) ≡ now (t .seats) → u .shape ≡ t .shape → Did k rule t (narrow words) (Refused why) u
-  narrow-stopped why is seats shape =
-      let turns : (b : Book V) → Keeps k t b → turn k rule b (narrow words) ≡ turned-away b why = λ b keeps.
-      stopped-so b (rest b) (too-few b words) (ltb 1 (b .size .rows)) (eqb (length (now (t .seats))) (b .size .buckets * b .size .most)) why (fits b keeps) (stop-is b keeps ∙ is) in
-      did-refused k rule t u (narrow words) why seats shape count lent turns
+  pub narrow_stopped : (why : Refusal) → stop ≡ Some why → u.seats.now ≡ t.seats.now → u.shape ≡ t.shape → Did k rule t (narrow words) (Refused why) u
+  narrow_stopped why is seats shape =
+      let turns : (b : Book V) → Keeps k t b → turn k rule b (narrow words) ≡ turned_away b why = λ b keeps.
+      stopped_so b (rest b) (too_few b words) (ltb 1 b.size.rows) (eqb (length t.seats.now) (b.size.buckets * b.size.most)) why (fits b keeps) (stop_is b keeps ∙ is) in
+      did_refused k rule t u (narrow words) why seats shape count lent turns
 
   -- for want of seats: entries may have moved
-  pub narrow-crowded : (why : Refusal) → why ≡ NoNarrowSeating → stop ≡ None → Shifted (k .empty) (now (t .seats)) (now (u .seats)) z → UnseatableBelow (k .empty) (now (t .seats)) z → length (now (u .seats)) ≡ length (now (t .seats)) → u .shape ≡ t .shape → Untouched k rule t (narrow words) u →
+  pub narrow_crowded : (why : Refusal) → why ≡ NoNarrowSeating → stop ≡ None → Shifted k.empty t.seats.now u.seats.now z → UnseatableBelow k.empty t.seats.now z → length u.seats.now ≡ length t.seats.now → u.shape ≡ t.shape → Untouched k rule t (narrow words) u →
       Did k rule t (narrow words) (Refused why) u
-  narrow-crowded why so goes shifted crowded long shape untouched =
-      let turns : (b : Book V) → Keeps k t b → turn k rule b (narrow words) ≡ turned-away b why = λ b keeps.
-      by-slack b false keeps goes (slack-is b keeps ∙ unseatable (z .buckets) (z .rows - 1) (z .range) (held (b .entries)) (crowded (b .entries) (keeps .shows))) ∙ ap (turned-away b) (sym so) in
+  narrow_crowded why so goes shifted crowded long shape untouched =
+      let turns : (b : Book V) → Keeps k t b → turn k rule b (narrow words) ≡ turned_away b why = λ b keeps.
+      by_slack b false keeps goes (slack_is b keeps ∙ unseatable z.buckets (z.rows - 1) z.range (held b.entries) (crowded b.entries keeps.shows)) ∙ ap (turned_away b) (sym so) in
       let kept : (b : Book V) → Keeps k t b → Keeps k u b = λ b keeps. record {
-        sized = keeps .sized ∙ ap size (sym shape);
-        room = ap (λ (s : Shape). s .buckets * s .most) shape ∙ keeps .room ∙ sym long;
-        shows = subst (λ (s : Shape). Shows (k .empty) (now (u .seats)) (size s) (b .entries)) (sym shape) (shifted .shows (b .entries) (keeps .shows));
-        rest = subst (λ (s : Shape). (bucket row : ℕ) → bucket < s .buckets → s .rows ≤ row → row < s .most → at (k .empty) (now (u .seats)) (bucket * s .most + row) ≡ vacant (k .empty)) (sym shape)
-            (λ bucket row low past high. shifted .beyond bucket row low past high ∙ keeps .rest bucket row low past high);
-        values = keeps .values;
-        counted = count ∙ keeps .counted;
+        sized = keeps.sized ∙ ap size (sym shape);
+        room = ap (λ (s : Shape). s.buckets * s.most) shape ∙ keeps.room ∙ sym long;
+        shows = subst (λ (s : Shape). Shows k.empty u.seats.now (size s) b.entries) (sym shape) (shifted.shows b.entries keeps.shows);
+        rest = subst (λ (s : Shape). (bucket row : ℕ) → bucket < s.buckets → s.rows ≤ row → row < s.most → at k.empty u.seats.now (bucket * s.most + row) ≡ vacant k.empty) (sym shape)
+            (λ bucket row low past high. shifted.beyond bucket row low past high ∙ keeps.rest bucket row low past high);
+        values = keeps.values;
+        counted = count ∙ keeps.counted;
       } in
       record {
-        answers = λ b keeps. sym (ap (λ (x : Turn V). x .answer) (turns b keeps));
-        keeps = λ b keeps. subst (λ (x : Turn V). Keeps k u (x .book)) (sym (turns b keeps)) (kept b keeps);
-        still = λ other is. (shape, count, λ apart. absurd (apart (refused-same other is)));
+        answers = λ b keeps. sym (ap (λ (x : Turn V). x.answer) (turns b keeps));
+        keeps = λ b keeps. subst (λ (x : Turn V). Keeps k u x.book) (sym (turns b keeps)) (kept b keeps);
+        still = λ other is. (shape, count, λ apart. absurd (apart (refused_same other is)));
         untouched = untouched;
         lent = lent;
       }
     where
-      refused-same : (other : Refusal) → _≡_ {A = Answer V} (Refused why) (Refused other) → other ≡ NoNarrowSeating
-      refused-same other is = cc
+      refused_same : (other : Refusal) → ◌≡◌ {A = Answer V} (Refused why) (Refused other) → other ≡ NoNarrowSeating
+      refused_same other is = cc
 
   -- the last row is cleared
-  pub narrow-done : stop ≡ None → size (u .shape) ≡ narrower z → Cleared (k .empty) (now (t .seats)) (now (u .seats)) z → length (now (u .seats)) ≡ length (now (t .seats)) → Untouched k rule t (narrow words) u →
-      Did k rule t (narrow words) (Sized (record { rows = u .shape .rows; held = u .held })) u
-  narrow-done goes shape cleared long untouched =
-      let buckets : u .shape .buckets ≡ t .shape .buckets = ap (λ (y : Size). y .buckets) shape in
-      let most : u .shape .most ≡ t .shape .most = ap (λ (y : Size). y .most) shape in
-      let fewer : u .shape .rows ≡ t .shape .rows - 1 = ap (λ (y : Size). y .rows) shape in
-      let rows : (b : Book V) → Keeps k t b → u .shape .rows ≡ b .size .rows - 1 = λ b keeps. fewer ∙ ap (λ (y : Size). y .rows - 1) (sym (keeps .sized)) in
-      let sound : Sound (narrower z) = subst Sound shape (shape-sound (u .shape)) in
-      let turns : (b : Book V) → Keeps k t b → turn k rule b (narrow words) ≡ tells-rows (resize b (b .size .rows - 1)) = λ b keeps.
-      by-slack b true keeps goes
-      (slack-is b keeps ∙ seatable-decides (z .buckets) (z .rows - 1) (z .range) (held (b .entries)) .1 (shows-seating (k .empty) sound (now (u .seats)) (b .entries) (cleared .shows (b .entries) (keeps .shows)))) in
+  pub narrow_done : stop ≡ None → size u.shape ≡ narrower z → Cleared k.empty t.seats.now u.seats.now z → length u.seats.now ≡ length t.seats.now → Untouched k rule t (narrow words) u →
+      Did k rule t (narrow words) (Sized (record { rows = u.shape.rows; held = u.held })) u
+  narrow_done goes shape cleared long untouched =
+      let buckets : u.shape.buckets ≡ t.shape.buckets = ap (λ (y : Size). y.buckets) shape in
+      let most : u.shape.most ≡ t.shape.most = ap (λ (y : Size). y.most) shape in
+      let fewer : u.shape.rows ≡ t.shape.rows - 1 = ap (λ (y : Size). y.rows) shape in
+      let rows : (b : Book V) → Keeps k t b → u.shape.rows ≡ b.size.rows - 1 = λ b keeps. fewer ∙ ap (λ (y : Size). y.rows - 1) (sym keeps.sized) in
+      let sound : Sound (narrower z) = subst Sound shape (shape_sound u.shape) in
+      let turns : (b : Book V) → Keeps k t b → turn k rule b (narrow words) ≡ tells_rows (resize b (b.size.rows - 1)) = λ b keeps.
+      by_slack b true keeps goes
+      (slack_is b keeps ∙ (seatable_decides z.buckets (z.rows - 1) z.range (held b.entries)).1 (shows_seating k.empty sound u.seats.now b.entries (cleared.shows b.entries keeps.shows))) in
       record {
-        answers = λ b keeps. same-answer k t u buckets most count b (b .size .rows - 1) keeps (rows b keeps) ∙ sym (ap (λ (x : Turn V). x .answer) (turns b keeps));
+        answers = λ b keeps. same_answer k t u buckets most count b (b.size.rows - 1) keeps (rows b keeps) ∙ sym (ap (λ (x : Turn V). x.answer) (turns b keeps));
         keeps = λ b keeps.
-            subst (λ (x : Turn V). Keeps k u (x .book)) (sym (turns b keeps))
+            subst (λ (x : Turn V). Keeps k u x.book) (sym (turns b keeps))
             (subst (λ n. Keeps k u (resize b n)) (rows b keeps)
-            (keeps-resized k t u buckets most count b keeps long
-            (subst (λ n. Shows (k .empty) (now (u .seats)) (with-rows z n) (b .entries)) (sym fewer) (cleared .shows (b .entries) (keeps .shows)))
+            (keeps_resized k t u buckets most count b keeps long
+            (subst (λ n. Shows k.empty u.seats.now (with_rows z n) b.entries) (sym fewer) (cleared.shows b.entries keeps.shows))
             (λ bucket row low past high.
-            ⊎-elim
-            (λ (last : row ≡ t .shape .rows - 1). ap (λ n. at (k .empty) (now (u .seats)) (bucket * t .shape .most + n)) last ∙ cleared .empty (b .entries) (keeps .shows) bucket low)
-            (λ (apart : row ≡ t .shape .rows - 1 → ⊥).
-            let further : t .shape .rows ≤ row = omega arith in
-            cleared .beyond bucket row low further high ∙ keeps .rest bucket row low further high)
-            (cases-eq row (t .shape .rows - 1)))));
-        still = λ why is. absurd (sized-accepts (record { rows = u .shape .rows; held = u .held }) why is);
+            ⊎_elim
+            (λ (last : row ≡ t.shape.rows - 1). ap (λ n. at k.empty u.seats.now (bucket * t.shape.most + n)) last ∙ cleared.empty b.entries keeps.shows bucket low)
+            (λ (apart : row ≡ t.shape.rows - 1 → ⊥).
+            let further : t.shape.rows ≤ row = omega arith in
+            cleared.beyond bucket row low further high ∙ keeps.rest bucket row low further high)
+            (cases_eq row (t.shape.rows - 1)))));
+        still = λ why is. absurd (sized_accepts (record { rows = u.shape.rows; held = u.held }) why is);
         untouched = untouched;
         lent = lent;
       }

@@ -1,140 +1,130 @@
 -- Posting to a held fingerprint and to a new one. Assumes nothing.
-use mathlib.Core.Path.{_≡_, refl, sym, ap, subst, _∙_, fun-ext}
-use mathlib.Core.Bool.{Bool, true, false, cond, not, _||_}
-use mathlib.Core.List.{List}
-use mathlib.Core.Logic.{_⊎_, ⊎-elim}
-use Prim.Native.Nat.{ℕ, min, _+_, _-_, _*_, _<_, _≤_}
-use native.Mathlib.Omega.{arith}
-use lib.Dec.{eqb, ltb}
-use lib.ListN.{length, set}
-use denote.Ref.{now, name}
-use Rattle·std.proofs.shelf.Bits.{mul-le}
-use Rattle·std.proofs.shelf.Tests.{both-ways, le-ltb, eq-eqb}
-use Rattle·std.proofs.iter.runs.Lists.{none-some, same-some}
-use Rattle·std.specs.Options.{isSome}
-use Rattle·std.specs.declared.option.Option.{Option}
-use Rattle·std.specs.declared.option.Option.the-variants.{Some, None}
-use Rattle·tallies.specs.Kinds.{Kind, Lawful}
-use Rattle·rules.specs.Rules.{Meaning}
-use Rattle·seatings.specs.Seatings.{Seating, also, seatable}
-use Rattle·seatings.proofs.Decided.{seatable-decides, unseatable}
-use Rattle·seats.specs.declared.refusal.Refusal.{Refusal}
-use Rattle·seats.specs.declared.refusal.Refusal.the-variants.{Seats, Words, LongKey, NoAmount, Ceiling, NoSeating}
-use Rattle·seats.specs.Shapes.{Size, size}
-use Rattle·seats.specs.Seats.{at, seat, held, changed}
-use Rattle·seats.proofs.Sitting.{shape-sound}
-use Rattle·seats.proofs.Seated.{shows-seating}
-use Rattle·moves.specs.Opening.{Unseatable}
-use Rattle·moves.specs.Placed.{Accepted, place-refusal}
-use Rattle·book.specs.declared.answer.Answer.the-variants.{Tallied, Refused}
-use Rattle·book.specs.Books.{Book, post, fingerprint, too-few, too-long, has-room, turned-away-if, turn, turned-away, gets, posted-onto, posted}
-use Rattle·table·specs.declared.table.Table.{Table}
-use Rattle·table·specs.Untouched.{SitsIn}
-use Rattle·table·specs.Tables.{Keeps, Did}
-use Rattle·table·proofs.Counted.{as-many, one-more, holding-few}
-use Rattle·table·proofs.Touching.{posted-there, posted-anew}
-use Rattle·table·proofs.Reading.{Reads, Asked, passed, reads-none, reads-some, same-fingerprint, same-entry, unmoved}
-use Rattle·table·proofs.Changing.{did-change, did-refused, tallied-accepts}
-use Rattle·table·proofs.Reversing.{retallies, low}
+use Rattle.std.proofs.Common.{◌≡◌, ℕ, ◌+◌, ◌-◌, ◌*◌, ◌<◌, ◌≤◌, min, Bool, true, false, cond, not, ◌||◌, eqb, ltb, ◌⊎◌, List, length, set, is_some, Some, None, Option, sym, refl, ap, ◌∙◌, subst, ⊎_elim, arith}
+use mathlib.Core.Path.{fun_ext}
+use Rattle.std.proofs.lemmas.Nat.{mul-le}
+use Rattle.std.proofs.lemmas.Bool.{both_ways, le-ltb, eq-eqb}
+use Rattle.std.proofs.iter.runs.Lists.{none-some, same_Some}
+use Rattle.tallies.specs.Kinds.{Kind, Lawful}
+use Rattle.rules.specs.Rules.{Meaning}
+use Rattle.seatings.specs.Seatings.{Seating, also, seatable}
+use Rattle.seatings.proofs.Decided.{seatable_decides, unseatable}
+use Rattle.seats.specs.declared.refusal.Refusal.{Refusal}
+use Rattle.seats.specs.declared.refusal.Refusal.TheVariants.{Seats, Words, LongKey, NoAmount, Ceiling, NoSeating}
+use Rattle.seats.specs.Shapes.{Size, size}
+use Rattle.seats.specs.Seats.{at, seat, held, changed}
+use Rattle.seats.proofs.Sitting.{shape_sound}
+use Rattle.seats.proofs.Seated.{shows_seating}
+use Rattle.moves.specs.Opening.{Unseatable}
+use Rattle.moves.specs.Placed.{Accepted, place_refusal}
+use Rattle.book.specs.declared.answer.Answer.TheVariants.{Tallied, Refused}
+use Rattle.book.specs.Books.{Book, post, fingerprint, too_few, too_long, has_room, turned_away_if, turn, turned_away, gets, posted_onto, posted}
+use Rattle.table.specs.declared.table.Table.{Table}
+use Rattle.table.specs.Untouched.{SitsIn}
+use Rattle.table.specs.Tables.{Keeps, Did}
+use Rattle.table.proofs.Counted.{as_many, one_more, holding_few}
+use Rattle.table.proofs.Touching.{posted_there, posted_anew}
+use Rattle.table.proofs.Reading.{Reads, Asked, passed, reads_none, reads_some, same_fingerprint, same_entry, unmoved}
+use Rattle.table.proofs.Changing.{did_change, did_refused, tallied_accepts}
+use Rattle.table.proofs.Reversing.{retallies, low}
 
 -- a table that keeps a book is not barred from placing an amount
-pub unbarred : {V : Type 0} (k : Kind V) → Lawful k → (t : Table V) (b : Book V) (amount : V) (words : ℕ) → Keeps k t b → 2 * t .shape .buckets ≤ words → k .is-amount amount ≡ true →
-    place-refusal k (now (t .seats)) (size (t .shape)) amount words ≡ None
+pub unbarred : {V : Type 0} (k : Kind V) → Lawful k → (t : Table V) (b : Book V) (amount : V) (words : ℕ) → Keeps k t b → 2 * t.shape.buckets ≤ words → k.is_amount amount ≡ true →
+    place_refusal k t.seats.now (size t.shape) amount words ≡ None
 unbarred k lawful t b amount words keeps enough real =
-    ap (λ x. cond (not x) (Some Seats) (cond (ltb words (2 * t .shape .buckets)) (Some Words) (cond (k .is-empty amount) (Some NoAmount) None))) (eq-eqb _ _ (sym (keeps .room)))
-    ∙ ap (λ x. cond x (Some Words) (cond (k .is-empty amount) (Some NoAmount) None)) (le-ltb words (2 * t .shape .buckets) enough)
-    ∙ ap (λ x. cond x (Some NoAmount) None) (filled (k .is-empty amount) refl)
+    ap (λ x. cond (not x) (Some Seats) (cond (ltb words (2 * t.shape.buckets)) (Some Words) (cond (k.is_empty amount) (Some NoAmount) None))) (eq-eqb _ _ (sym keeps.room))
+    ∙ ap (λ x. cond x (Some Words) (cond (k.is_empty amount) (Some NoAmount) None)) (le-ltb words (2 * t.shape.buckets) enough)
+    ∙ ap (λ x. cond x (Some NoAmount) None) (filled (k.is_empty amount) refl)
   where
-    filled : (x : Bool) → k .is-empty amount ≡ x → x ≡ false
-    filled true is = absurd (let e = lawful .empty-told amount .0 is in both-ways (k .is-amount amount) (ap (k .is-amount) e ∙ lawful .empty-is-no-amount) real)
+    filled : (x : Bool) → k.is_empty amount ≡ x → x ≡ false
+    filled true is = absurd (let e = (lawful.empty_told amount).0 is in both_ways (k.is_amount amount) (ap k.is_amount e ∙ lawful.empty_is_no_amount) real)
     filled false is = refl
 
 -- no table holds so many that one more cannot be counted
-held-few : {V : Type 0} (k : Kind V) (t : Table V) (b : Book V) → Keeps k t b → t .held + 1 ≤ 4294967295
-held-few k t b keeps =
-    let m = t .shape .buckets in
-    let range : b .size .range ≡ m * (m - 1) = ap (λ (z : Size). z .range) (keeps .sized) in
+held_few : {V : Type 0} (k : Kind V) (t : Table V) (b : Book V) → Keeps k t b → t.held + 1 ≤ 4294967295
+held_few k t b keeps =
+    let m = t.shape.buckets in
+    let range : b.size.range ≡ m * (m - 1) = ap (λ (z : Size). z.range) keeps.sized in
     let most : m * (m - 1) ≤ 4096 * 4096 = mul-le m (m - 1) 4096 4096 (omega arith) (omega arith) in
-    omega (arith, keeps .counted, holding-few b)
+    omega (arith, keeps.counted, holding_few b)
 
 -- what is held with f held too
-held-also : {X : Type 0} (entries : ℕ → Option X) (f : ℕ) (v : X) → held (changed entries f (Some v)) ≡ also f (held entries)
-held-also entries f v = fun-ext (λ g. by (eqb g f) (entries g))
+held_also : {X : Type 0} (entries : ℕ → Option X) (f : ℕ) (v : X) → held (changed entries f (Some v)) ≡ also f (held entries)
+held_also entries f v = fun_ext (λ g. by (eqb g f) (entries g))
   where
-    by : (here : Bool) (o : Option _) → isSome (cond here (Some v) o) ≡ (here || isSome o)
+    by : (here : Bool) (o : Option _) → is_some (cond here (Some v) o) ≡ (here || is_some o)
     by true o = refl
     by false o = refl
 
 module _ {V : Type 0} (k : Kind V) (rule : Meaning) (t : Table V) (key : List ℕ) (f : ℕ) (amount : V) (words : ℕ)
-    (enough : 2 * t .shape .buckets ≤ words) (short : too-long key ≡ false) (real : k .is-amount amount ≡ true) (asked : Asked k rule t key f) where
+    (enough : 2 * t.shape.buckets ≤ words) (short : too_long key ≡ false) (real : k.is_amount amount ≡ true) (asked : Asked k rule t key f) where
   -- the checks before have passed
   posting : (b : Book V) (o : Option V) → Reads k t f o → Keeps k t b → turn k rule b (post key amount words) ≡ posted k b f amount o
   posting b o reads keeps =
-      let buckets = ap (λ (z : Size). z .buckets) (keeps .sized) in
-      passed b (too-few b words) Words _ (le-ltb words (2 * b .size .buckets) (omega arith))
-      ∙ passed b (too-long key) LongKey _ short
-      ∙ ap (λ x. turned-away-if b (not x) NoAmount (posted k b (fingerprint rule b key) amount (b .entries (fingerprint rule b key)))) real
-      ∙ ap (posted k b (fingerprint rule b key) amount) (same-entry k rule t b key f o asked reads keeps)
-      ∙ ap (λ n. posted k b n amount o) (same-fingerprint k rule t b key f asked keeps)
+      let buckets = ap (λ (z : Size). z.buckets) keeps.sized in
+      passed b (too_few b words) Words _ (le-ltb words (2 * b.size.buckets) (omega arith))
+      ∙ passed b (too_long key) LongKey _ short
+      ∙ ap (λ x. turned_away_if b (not x) NoAmount (posted k b (fingerprint rule b key) amount (b.entries (fingerprint rule b key)))) real
+      ∙ ap (posted k b (fingerprint rule b key) amount) (same_entry k rule t b key f o asked reads keeps)
+      ∙ ap (λ n. posted k b n amount o) (same_fingerprint k rule t b key f asked keeps)
 
-  pub posted-over : (v : V) → Reads k t f (Some v) → k .join v amount ≡ None → Did k rule t (post key amount words) (Refused Ceiling) t
-  posted-over v reads over = unmoved k rule t (post key amount words) (Refused Ceiling) (λ b keeps. posting b (Some v) reads keeps ∙ ap (posted-onto b f) over)
+  pub posted_over : (v : V) → Reads k t f (Some v) → k.join v amount ≡ None → Did k rule t (post key amount words) (Refused Ceiling) t
+  posted_over v reads over = unmoved k rule t (post key amount words) (Refused Ceiling) (λ b keeps. posting b (Some v) reads keeps ∙ ap (posted_onto b f) over)
 
-  pub posted-more : Lawful k → (u : Table V) (i : ℕ) (v w : V) → SitsIn k t f i → v ≡ at (k .empty) (now (t .seats)) i .tally → k .join v amount ≡ Some w →
-      now (u .seats) ≡ set (now (t .seats)) i (seat (at (k .empty) (now (t .seats)) i .carry) (at (k .empty) (now (t .seats)) i .flag) w) → u .shape ≡ t .shape → u .held ≡ t .held → name (u .seats) ≡ name (t .seats) →
+  pub posted_more : Lawful k → (u : Table V) (i : ℕ) (v w : V) → SitsIn k t f i → v ≡ (at k.empty t.seats.now i).tally → k.join v amount ≡ Some w →
+      u.seats.now ≡ set t.seats.now i (seat (at k.empty t.seats.now i).carry (at k.empty t.seats.now i).flag w) → u.shape ≡ t.shape → u.held ≡ t.held → u.seats.ghost_name ≡ t.seats.ghost_name →
       Did k rule t (post key amount words) (Tallied w) u
-  posted-more lawful u i v w sits got join seats shape same lent =
-      let reads = reads-some k t f i v sits got in
-      did-change k t u f (Some w) rule (post key amount words) (Tallied w) lent (tallied-accepts w) (posted-there k rule t u key f asked amount words i sits _ seats)
+  posted_more lawful u i v w sits got join seats shape same lent =
+      let reads = reads_some k t f i v sits got in
+      did_change k t u f (Some w) rule (post key amount words) (Tallied w) lent (tallied_accepts w) (posted_there k rule t u key f asked amount words i sits _ seats)
       (λ b keeps.
-      let held-v = reads (b .entries) (keeps .shows) in
-      let value = keeps .values f v held-v in
+      let held-v = reads b.entries keeps.shows in
+      let value = keeps.values f v held-v in
       record {
-        changes = retallies k t u f i sits shape w (lawful .joined-is-never-empty v amount w value real join) seats;
-        turns = posting b (Some v) reads keeps ∙ ap (posted-onto b f) join;
-        value = λ x is. ap (k .is-value) (same-some x w (sym is)) ∙ lawful .joined-is-value v amount w value real join;
-        count = same ∙ keeps .counted ∙ sym (as-many b f (low k t u f i sits shape b keeps) v w held-v);
+        changes = retallies k t u f i sits shape w (lawful.joined_is_never_empty v amount w value real join) seats;
+        turns = posting b (Some v) reads keeps ∙ ap (posted_onto b f) join;
+        value = λ x is. ap k.is_value (same_Some x w (sym is)) ∙ lawful.joined_is_value v amount w value real join;
+        count = same ∙ keeps.counted ∙ sym (as_many b f (low k t u f i sits shape b keeps) v w held-v);
       })
 
   -- the fingerprint is new
   module _ (nowhere : (i : ℕ) → SitsIn k t f i → ⊥) where
     reads : Reads k t f None
-    reads = reads-none k t f nowhere
+    reads = reads_none k t f nowhere
 
-    room-is : (b : Book V) → Keeps k t b → has-room b f ≡ seatable (t .shape .buckets) (t .shape .rows) (size (t .shape) .range) (also f (held (b .entries)))
-    room-is b keeps = ap (λ (z : Size). seatable (z .buckets) (z .rows) (z .range) (also f (held (b .entries)))) (keeps .sized)
+    room_is : (b : Book V) → Keeps k t b → has_room b f ≡ seatable t.shape.buckets t.shape.rows (size t.shape).range (also f (held b.entries))
+    room_is b keeps = ap (λ (z : Size). seatable z.buckets z.rows z.range (also f (held b.entries))) keeps.sized
 
-    by-room : (b : Book V) (room : Bool) → has-room b f ≡ room → Keeps k t b → turn k rule b (post key amount words) ≡ turned-away-if b (not room) NoSeating (gets b f amount)
-    by-room b room is keeps = posting b None reads keeps ∙ ap (λ x. turned-away-if b (not x) NoSeating (gets b f amount)) is
+    by_room : (b : Book V) (room : Bool) → has_room b f ≡ room → Keeps k t b → turn k rule b (post key amount words) ≡ turned_away_if b (not room) NoSeating (gets b f amount)
+    by_room b room is keeps = posting b None reads keeps ∙ ap (λ x. turned_away_if b (not x) NoSeating (gets b f amount)) is
 
-    pub posted-new : Lawful k → (u : Table V) → Accepted (k .empty) (now (t .seats)) (now (u .seats)) (size (t .shape)) f amount → length (now (u .seats)) ≡ length (now (t .seats)) →
-        u .shape ≡ t .shape → u .held ≡ min (t .held + 1) 4294967295 → name (u .seats) ≡ name (t .seats) → Did k rule t (post key amount words) (Tallied amount) u
-    posted-new lawful u accepted long shape more lent =
-        did-change k t u f (Some amount) rule (post key amount words) (Tallied amount) lent (tallied-accepts amount) (posted-anew k rule t u key f asked amount words nowhere accepted)
+    pub posted_new : Lawful k → (u : Table V) → Accepted k.empty t.seats.now u.seats.now (size t.shape) f amount → length u.seats.now ≡ length t.seats.now →
+        u.shape ≡ t.shape → u.held ≡ min (t.held + 1) 4294967295 → u.seats.ghost_name ≡ t.seats.ghost_name → Did k rule t (post key amount words) (Tallied amount) u
+    posted_new lawful u accepted long shape more lent =
+        did_change k t u f (Some amount) rule (post key amount words) (Tallied amount) lent (tallied_accepts amount) (posted_anew k rule t u key f asked amount words nowhere accepted)
         (λ b keeps.
-        let z = size (t .shape) in
-        let new : b .entries f ≡ None = reads (b .entries) (keeps .shows) in
-        let shows = accepted .shows (b .entries) (keeps .shows) new in
-        let seating : Seating (z .buckets) (z .rows) (z .range) (also f (held (b .entries))) =
-        subst (Seating (z .buckets) (z .rows) (z .range)) (held-also (b .entries) f amount) (shows-seating (k .empty) (shape-sound (t .shape)) (now (u .seats)) (changed (b .entries) f (Some amount)) shows) in
-        let room = seatable-decides (z .buckets) (z .rows) (z .range) (also f (held (b .entries))) .1 seating in
-        let below = subst (λ (y : Size). f < y .range) (sym (keeps .sized)) (accepted .below) in
+        let z = size t.shape in
+        let new : b.entries f ≡ None = reads b.entries keeps.shows in
+        let shows = accepted.shows b.entries keeps.shows new in
+        let seating : Seating z.buckets z.rows z.range (also f (held b.entries)) =
+        subst (Seating z.buckets z.rows z.range) (held_also b.entries f amount) (shows_seating k.empty (shape_sound t.shape) u.seats.now (changed b.entries f (Some amount)) shows) in
+        let room = (seatable_decides z.buckets z.rows z.range (also f (held b.entries))).1 seating in
+        let below = subst (λ (y : Size). f < y.range) (sym keeps.sized) accepted.below in
         record {
-          changes = record { shape = shape; long = long; writes = λ entries shown. accepted .shows entries shown (reads entries shown); past = accepted .beyond };
-          turns = by-room b true (room-is b keeps ∙ room) keeps;
-          value = λ x is. ap (k .is-value) (same-some x amount (sym is)) ∙ lawful .amounts-are-values amount real;
-          count = let few = held-few k t b keeps in let one = one-more b f below amount new in omega (arith, keeps .counted);
+          changes = record { shape = shape; long = long; writes = λ entries shown. accepted.shows entries shown (reads entries shown); past = accepted.beyond };
+          turns = by_room b true (room_is b keeps ∙ room) keeps;
+          value = λ x is. ap k.is_value (same_Some x amount (sym is)) ∙ lawful.amounts_are_values amount real;
+          count = let few = held_few k t b keeps in let one = one_more b f below amount new in omega (arith, keeps.counted);
         })
 
-    pub posted-full : (u : Table V) (why : Refusal) → now (u .seats) ≡ now (t .seats) → u .shape ≡ t .shape → u .held ≡ t .held → name (u .seats) ≡ name (t .seats) →
-        Lawful k → (place-refusal k (now (t .seats)) (size (t .shape)) amount words ≡ Some why) ⊎ ((place-refusal k (now (t .seats)) (size (t .shape)) amount words ≡ None) × (why ≡ NoSeating) × Unseatable (k .empty) (now (t .seats)) (size (t .shape)) f) →
-        f < size (t .shape) .range → Did k rule t (post key amount words) (Refused why) u
-    posted-full u why seats shape same lent lawful reason below =
-        let full : (b : Book V) → Keeps k t b → (why ≡ NoSeating) × Unseatable (k .empty) (now (t .seats)) (size (t .shape)) f = λ b keeps.
-        ⊎-elim (λ is. absurd (none-some why (sym (unbarred k lawful t b amount words keeps enough real) ∙ is))) (λ h. (h .1, h .2)) reason in
-        let turns : (b : Book V) → Keeps k t b → turn k rule b (post key amount words) ≡ turned-away b why = λ b keeps.
-        let z = size (t .shape) in
+    pub posted_full : (u : Table V) (why : Refusal) → u.seats.now ≡ t.seats.now → u.shape ≡ t.shape → u.held ≡ t.held → u.seats.ghost_name ≡ t.seats.ghost_name →
+        Lawful k → (place_refusal k t.seats.now (size t.shape) amount words ≡ Some why) ⊎ ((place_refusal k t.seats.now (size t.shape) amount words ≡ None) × (why ≡ NoSeating) × Unseatable k.empty t.seats.now (size t.shape) f) →
+        f < (size t.shape).range → Did k rule t (post key amount words) (Refused why) u
+    posted_full u why seats shape same lent lawful reason below =
+        let full : (b : Book V) → Keeps k t b → (why ≡ NoSeating) × Unseatable k.empty t.seats.now (size t.shape) f = λ b keeps.
+        ⊎_elim (λ is. absurd (none-some why (sym (unbarred k lawful t b amount words keeps enough real) ∙ is))) (λ h. (h.1, h.2)) reason in
+        let turns : (b : Book V) → Keeps k t b → turn k rule b (post key amount words) ≡ turned_away b why = λ b keeps.
+        let z = size t.shape in
         let (is, none) = full b keeps in
-        by-room b false (room-is b keeps ∙ unseatable (z .buckets) (z .rows) (z .range) (also f (held (b .entries))) (none below (b .entries) (keeps .shows) (reads (b .entries) (keeps .shows)))) keeps
-        ∙ ap (turned-away b) (sym is) in
-        did-refused k rule t u (post key amount words) why seats shape same lent turns
+        by_room b false (room_is b keeps ∙ unseatable z.buckets z.rows z.range (also f (held b.entries)) (none below b.entries keeps.shows (reads b.entries keeps.shows))) keeps
+        ∙ ap (turned_away b) (sym is) in
+        did_refused k rule t u (post key amount words) why seats shape same lent turns

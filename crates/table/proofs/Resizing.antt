@@ -1,80 +1,74 @@
 -- The same seats with more rows in use, or fewer. Assumes nothing.
-use mathlib.Core.Path.{_≡_, sym, ap, subst, _∙_}
-use mathlib.Core.Bool.{Bool, true, not}
-use Prim.Native.Nat.{ℕ, _+_, _-_, _*_, _<_, _≤_}
-use native.Mathlib.Omega.{arith}
-use lib.Dec.{ltb}
-use lib.ListN.{length}
-use denote.Ref.{now, name}
-use Rattle·std.proofs.shelf.Tests.{lt-ltb}
-use Rattle·tallies.specs.Kinds.{Kind}
-use Rattle·rules.specs.Rules.{Meaning}
-use Rattle·seats.specs.declared.refusal.Refusal.{Refusal}
-use Rattle·seats.specs.declared.refusal.Refusal.the-variants.{RowLimit}
-use Rattle·seats.specs.Shapes.{Size, size, with-rows}
-use Rattle·seats.specs.Seats.{Shows, at, vacant}
-use Rattle·narrowing.proofs.Resized.{shows-resized}
-use Rattle·book.specs.declared.answer.Usage.{Usage}
-use Rattle·book.specs.declared.answer.Answer.{Answer}
-use Rattle·book.specs.declared.answer.Answer.the-variants.{Sized, Refused}
-use Rattle·book.specs.Books.{Book, Turn, widen, turned-away-if, turn, resize, tells-rows}
-use Rattle·table·specs.declared.table.Table.{Table}
-use Rattle·table·specs.Tables.{Keeps, Did}
+use Rattle.std.proofs.Common.{◌≡◌, ℕ, ◌+◌, ◌-◌, ◌*◌, ◌<◌, ◌≤◌, Bool, true, not, ltb, length, sym, ap, ◌∙◌, subst, arith}
+use Rattle.std.proofs.lemmas.Bool.{lt-ltb}
+use Rattle.tallies.specs.Kinds.{Kind}
+use Rattle.rules.specs.Rules.{Meaning}
+use Rattle.seats.specs.declared.refusal.Refusal.{Refusal}
+use Rattle.seats.specs.declared.refusal.Refusal.TheVariants.{RowLimit}
+use Rattle.seats.specs.Shapes.{Size, size, with_rows}
+use Rattle.seats.specs.Seats.{Shows, at, vacant}
+use Rattle.narrowing.proofs.Resized.{shows_resized}
+use Rattle.book.specs.declared.answer.Usage.{Usage}
+use Rattle.book.specs.declared.answer.Answer.{Answer}
+use Rattle.book.specs.declared.answer.Answer.TheVariants.{Sized, Refused}
+use Rattle.book.specs.Books.{Book, Turn, widen, turned_away_if, turn, resize, tells_rows}
+use Rattle.table.specs.declared.table.Table.{Table}
+use Rattle.table.specs.Tables.{Keeps, Did}
 
 -- a table whose rows in use alone are other than before
-module _ {V : Type 0} (k : Kind V) (t u : Table V) (buckets : u .shape .buckets ≡ t .shape .buckets) (most : u .shape .most ≡ t .shape .most) (count : u .held ≡ t .held) where
-  same-size : size (u .shape) ≡ with-rows (size (t .shape)) (u .shape .rows)
-  same-size = λ i. record { buckets = buckets i; most = most i; rows = u .shape .rows; range = buckets i * (buckets i - 1) }
+module _ {V : Type 0} (k : Kind V) (t u : Table V) (buckets : u.shape.buckets ≡ t.shape.buckets) (most : u.shape.most ≡ t.shape.most) (count : u.held ≡ t.held) where
+  same_size : size u.shape ≡ with_rows (size t.shape) u.shape.rows
+  same_size = λ i. record { buckets = buckets i; most = most i; rows = u.shape.rows; range = buckets i * (buckets i - 1) }
 
   -- all seats past the rows in use of u are empty
   abbrev pub Rest : Type 0
-  Rest = (bucket row : ℕ) → bucket < t .shape .buckets → u .shape .rows ≤ row → row < t .shape .most → at (k .empty) (now (u .seats)) (bucket * t .shape .most + row) ≡ vacant (k .empty)
+  Rest = (bucket row : ℕ) → bucket < t.shape.buckets → u.shape.rows ≤ row → row < t.shape.most → at k.empty u.seats.now (bucket * t.shape.most + row) ≡ vacant k.empty
 
-  pub keeps-resized : (b : Book V) → Keeps k t b → length (now (u .seats)) ≡ length (now (t .seats)) →
-      Shows (k .empty) (now (u .seats)) (with-rows (size (t .shape)) (u .shape .rows)) (b .entries) → Rest → Keeps k u (resize b (u .shape .rows))
-  keeps-resized b keeps long shows rest = record {
-    sized = ap (λ (z : Size). with-rows z (u .shape .rows)) (keeps .sized) ∙ sym same-size;
-    room = (λ i. buckets i * most i) ∙ keeps .room ∙ sym long;
-    shows = subst (λ (z : Size). Shows (k .empty) (now (u .seats)) z (b .entries)) (sym same-size) shows;
+  pub keeps_resized : (b : Book V) → Keeps k t b → length u.seats.now ≡ length t.seats.now →
+      Shows k.empty u.seats.now (with_rows (size t.shape) u.shape.rows) b.entries → Rest → Keeps k u (resize b u.shape.rows)
+  keeps_resized b keeps long shows rest = record {
+    sized = ap (λ (z : Size). with_rows z u.shape.rows) keeps.sized ∙ sym same_size;
+    room = (λ i. buckets i * most i) ∙ keeps.room ∙ sym long;
+    shows = subst (λ (z : Size). Shows k.empty u.seats.now z b.entries) (sym same_size) shows;
     rest = λ bucket row low past high.
-        ap (λ n. at (k .empty) (now (u .seats)) (bucket * n + row)) most ∙ rest bucket row (subst (λ n. bucket < n) buckets low) past (subst (λ n. row < n) most high);
-    values = keeps .values;
-    counted = count ∙ keeps .counted;
+        ap (λ n. at k.empty u.seats.now (bucket * n + row)) most ∙ rest bucket row (subst (λ n. bucket < n) buckets low) past (subst (λ n. row < n) most high);
+    values = keeps.values;
+    counted = count ∙ keeps.counted;
   }
 
   -- the answer is the book's, where its rows are
-  pub same-answer : (b : Book V) (rows : ℕ) → Keeps k t b → u .shape .rows ≡ rows → Sized (record { rows = u .shape .rows; held = u .held }) ≡ tells-rows (resize b rows) .answer
-  same-answer b rows keeps is = λ i. Sized (record { rows = is i; held = (count ∙ keeps .counted) i })
+  pub same_answer : (b : Book V) (rows : ℕ) → Keeps k t b → u.shape.rows ≡ rows → Sized (record { rows = u.shape.rows; held = u.held }) ≡ (tells_rows (resize b rows)).answer
+  same_answer b rows keeps is = λ i. Sized (record { rows = is i; held = (count ∙ keeps.counted) i })
 
-pub sized-accepts : {V : Type 0} (usage : Usage) (why : Refusal) → _≡_ {A = Answer V} (Sized usage) (Refused why) → ⊥
-sized-accepts usage why is = let n : _≡_ {A = ℕ} 0 1 = cc in omega arith
+pub sized_accepts : {V : Type 0} (usage : Usage) (why : Refusal) → ◌≡◌ {A = Answer V} (Sized usage) (Refused why) → ⊥
+sized_accepts usage why is = let n : ◌≡◌ {A = ℕ} 0 1 = cc in omega arith
 
 module _ {V : Type 0} (k : Kind V) (rule : Meaning) (t : Table V) where
-  widens : (b : Book V) (room : Bool) → room ≡ true → turned-away-if b (not room) RowLimit (tells-rows (resize b (b .size .rows + 1))) ≡ tells-rows (resize b (b .size .rows + 1))
-  widens b room is = ap (λ x. turned-away-if b (not x) RowLimit (tells-rows (resize b (b .size .rows + 1)))) is
+  widens : (b : Book V) (room : Bool) → room ≡ true → turned_away_if b (not room) RowLimit (tells_rows (resize b (b.size.rows + 1))) ≡ tells_rows (resize b (b.size.rows + 1))
+  widens b room is = ap (λ x. turned_away_if b (not x) RowLimit (tells_rows (resize b (b.size.rows + 1)))) is
 
-  rows-are : (b : Book V) → Keeps k t b → b .size .rows ≡ t .shape .rows
-  rows-are b keeps = ap (λ (z : Size). z .rows) (keeps .sized)
+  rows_are : (b : Book V) → Keeps k t b → b.size.rows ≡ t.shape.rows
+  rows_are b keeps = ap (λ (z : Size). z.rows) keeps.sized
 
-  most-are : (b : Book V) → Keeps k t b → b .size .most ≡ t .shape .most
-  most-are b keeps = ap (λ (z : Size). z .most) (keeps .sized)
+  most_are : (b : Book V) → Keeps k t b → b.size.most ≡ t.shape.most
+  most_are b keeps = ap (λ (z : Size). z.most) keeps.sized
 
-  pub widened : (u : Table V) (n : Usage) → n ≡ record { rows = u .shape .rows; held = u .held } → t .shape .rows < t .shape .most → now (u .seats) ≡ now (t .seats) → u .shape .buckets ≡ t .shape .buckets → u .shape .most ≡ t .shape .most →
-      u .shape .rows ≡ t .shape .rows + 1 → u .held ≡ t .held → name (u .seats) ≡ name (t .seats) → Did k rule t widen (Sized n) u
+  pub widened : (u : Table V) (n : Usage) → n ≡ record { rows = u.shape.rows; held = u.held } → t.shape.rows < t.shape.most → u.seats.now ≡ t.seats.now → u.shape.buckets ≡ t.shape.buckets → u.shape.most ≡ t.shape.most →
+      u.shape.rows ≡ t.shape.rows + 1 → u.held ≡ t.held → u.seats.ghost_name ≡ t.seats.ghost_name → Did k rule t widen (Sized n) u
   widened u n is room seats buckets most more count lent =
-      let rows : (b : Book V) → Keeps k t b → u .shape .rows ≡ b .size .rows + 1 = λ b keeps. more ∙ ap (λ n. n + 1) (sym (rows-are b keeps)) in
-      let turns : (b : Book V) → Keeps k t b → turn k rule b widen ≡ tells-rows (resize b (b .size .rows + 1)) = λ b keeps.
-      widens b (ltb (b .size .rows) (b .size .most)) (lt-ltb (b .size .rows) (b .size .most) (omega (arith, rows-are b keeps, most-are b keeps))) in
+      let rows : (b : Book V) → Keeps k t b → u.shape.rows ≡ b.size.rows + 1 = λ b keeps. more ∙ ap (λ n. n + 1) (sym (rows_are b keeps)) in
+      let turns : (b : Book V) → Keeps k t b → turn k rule b widen ≡ tells_rows (resize b (b.size.rows + 1)) = λ b keeps.
+      widens b (ltb b.size.rows b.size.most) (lt-ltb b.size.rows b.size.most (omega (arith, rows_are b keeps, most_are b keeps))) in
       record {
-        answers = λ b keeps. ap Sized is ∙ same-answer k t u buckets most count b (b .size .rows + 1) keeps (rows b keeps) ∙ sym (ap (λ (x : Turn V). x .answer) (turns b keeps));
+        answers = λ b keeps. ap Sized is ∙ same_answer k t u buckets most count b (b.size.rows + 1) keeps (rows b keeps) ∙ sym (ap (λ (x : Turn V). x.answer) (turns b keeps));
         keeps = λ b keeps.
-            subst (λ (x : Turn V). Keeps k u (x .book)) (sym (turns b keeps))
+            subst (λ (x : Turn V). Keeps k u x.book) (sym (turns b keeps))
             (subst (λ n. Keeps k u (resize b n)) (rows b keeps)
-            (keeps-resized k t u buckets most count b keeps (ap length seats)
-            (subst (λ xs. Shows (k .empty) xs (with-rows (size (t .shape)) (u .shape .rows)) (b .entries)) (sym seats)
-            (shows-resized (k .empty) (now (t .seats)) (size (t .shape)) (u .shape .rows) (λ bucket row _ low _. omega arith) (λ bucket row low lt past. keeps .rest bucket row low past (omega arith)) (b .entries) (keeps .shows)))
-            (λ bucket row low past high. ap (λ xs. at (k .empty) xs (bucket * t .shape .most + row)) seats ∙ keeps .rest bucket row low (omega arith) high)));
-        still = λ why refused. absurd (sized-accepts n why refused);
+            (keeps_resized k t u buckets most count b keeps (ap length seats)
+            (subst (λ xs. Shows k.empty xs (with_rows (size t.shape) u.shape.rows) b.entries) (sym seats)
+            (shows_resized k.empty t.seats.now (size t.shape) u.shape.rows (λ bucket row _ low _. omega arith) (λ bucket row low lt past. keeps.rest bucket row low past (omega arith)) b.entries keeps.shows))
+            (λ bucket row low past high. ap (λ xs. at k.empty xs (bucket * t.shape.most + row)) seats ∙ keeps.rest bucket row low (omega arith) high)));
+        still = λ why refused. absurd (sized_accepts n why refused);
         untouched = seats;
         lent = lent;
       }

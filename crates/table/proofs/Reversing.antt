@@ -1,130 +1,122 @@
 -- Erasing and reversing. Assumes nothing.
-use mathlib.Core.Path.{_≡_, sym, ap, subst, _∙_}
-use mathlib.Core.Bool.{Bool, true, false, cond, not}
-use mathlib.Core.List.{List}
-use Prim.Native.Nat.{ℕ, _+_, _-_, _*_, _<_}
-use native.Mathlib.Omega.{arith}
-use lib.ListN.{length, set}
-use denote.Ref.{now, name}
-use Rattle·std.proofs.shelf.Lists.{length-set}
-use Rattle·std.proofs.shelf.Tests.{both-ways}
-use Rattle·std.proofs.iter.runs.Lists.{none-some, same-some}
-use Rattle·std.specs.declared.option.Option.{Option}
-use Rattle·std.specs.declared.option.Option.the-variants.{Some, None}
-use Rattle·tallies.specs.Kinds.{Kind, Lawful}
-use Rattle·rules.specs.Rules.{Meaning}
-use Rattle·seats.specs.declared.refusal.Refusal.the-variants.{LongKey, NoAmount, NotHeld, NotTakenBack}
-use Rattle·seats.specs.Shapes.{Size, size}
-use Rattle·seats.specs.Seats.{Shows, at, seat, vacant, changed}
-use Rattle·seats.proofs.Sitting.{shape-sound}
-use Rattle·book.specs.declared.answer.Answer.the-variants.{Tallied, Held, Refused}
-use Rattle·book.specs.Books.{Book, erase, reverse, enter, fingerprint, too-long, turned-away-if, turn, erased, reversed, taken-back}
-use Rattle·table·specs.declared.table.Table.{Table}
-use Rattle·table·specs.Untouched.{SitsIn}
-use Rattle·table·specs.Tables.{Keeps, Did}
-use Rattle·table·proofs.Counted.{one-fewer, as-many}
-use Rattle·table·proofs.Touching.{written-there}
-use Rattle·table·proofs.Reading.{Reads, Asked, passed, reads-some, sits-inside, same-fingerprint, same-entry, unmoved}
-use Rattle·table·proofs.Changing.{Changes, did-change, past-rows, vacated, retallied, tallied-accepts, held-accepts}
+use Rattle.std.proofs.Common.{◌≡◌, ℕ, ◌+◌, ◌-◌, ◌*◌, ◌<◌, Bool, true, false, cond, not, List, length, set, Some, None, Option, sym, ap, ◌∙◌, subst, arith}
+use Rattle.std.proofs.lemmas.List.{length-set}
+use Rattle.std.proofs.lemmas.Bool.{both_ways}
+use Rattle.std.proofs.iter.runs.Lists.{none-some, same_Some}
+use Rattle.tallies.specs.Kinds.{Kind, Lawful}
+use Rattle.rules.specs.Rules.{Meaning}
+use Rattle.seats.specs.declared.refusal.Refusal.TheVariants.{LongKey, NoAmount, NotHeld, NotTakenBack}
+use Rattle.seats.specs.Shapes.{Size, size}
+use Rattle.seats.specs.Seats.{Shows, at, seat, vacant, changed}
+use Rattle.seats.proofs.Sitting.{shape_sound}
+use Rattle.book.specs.declared.answer.Answer.TheVariants.{Tallied, Held, Refused}
+use Rattle.book.specs.Books.{Book, erase, reverse, enter, fingerprint, too_long, turned_away_if, turn, erased, reversed, taken_back}
+use Rattle.table.specs.declared.table.Table.{Table}
+use Rattle.table.specs.Untouched.{SitsIn}
+use Rattle.table.specs.Tables.{Keeps, Did}
+use Rattle.table.proofs.Counted.{one_fewer, as_many}
+use Rattle.table.proofs.Touching.{written_there}
+use Rattle.table.proofs.Reading.{Reads, Asked, passed, reads_some, sits_inside, same_fingerprint, same_entry, unmoved}
+use Rattle.table.proofs.Changing.{Changes, did_change, past_rows, vacated, retallied, tallied_accepts, held_accepts}
 
 -- the seat i of t, which f sits in, is written
-module _ {V : Type 0} (k : Kind V) (t u : Table V) (f i : ℕ) (sits : SitsIn k t f i) (shape : u .shape ≡ t .shape) where
-  pub empties : now (u .seats) ≡ set (now (t .seats)) i (vacant (k .empty)) → Changes k t u f None
+module _ {V : Type 0} (k : Kind V) (t u : Table V) (f i : ℕ) (sits : SitsIn k t f i) (shape : u.shape ≡ t.shape) where
+  pub empties : u.seats.now ≡ set t.seats.now i (vacant k.empty) → Changes k t u f None
   empties is =
-      let e = k .empty in
-      let xs = now (t .seats) in
-      let inside = sits-inside k t f i sits in
+      let e = k.empty in
+      let xs = t.seats.now in
+      let inside = sits_inside k t f i sits in
       record {
         shape = shape;
         long = ap length is ∙ length-set xs i (vacant e);
-        writes = λ entries shows. subst (λ ys. Shows e ys (size (t .shape)) (changed entries f None)) (sym is) (vacated e (shape-sound (t .shape)) xs f i sits inside entries shows);
-        past = λ bucket row _ far low. ap (λ ys. at e ys (bucket * t .shape .most + row)) is ∙ past-rows e (shape-sound (t .shape)) xs f i sits inside (vacant e) bucket row far low;
+        writes = λ entries shows. subst (λ ys. Shows e ys (size t.shape) (changed entries f None)) (sym is) (vacated e (shape_sound t.shape) xs f i sits inside entries shows);
+        past = λ bucket row _ far low. ap (λ ys. at e ys (bucket * t.shape.most + row)) is ∙ past_rows e (shape_sound t.shape) xs f i sits inside (vacant e) bucket row far low;
       }
 
-  pub retallies : (w : V) → (w ≡ k .empty → ⊥) → now (u .seats) ≡ set (now (t .seats)) i (seat (at (k .empty) (now (t .seats)) i .carry) (at (k .empty) (now (t .seats)) i .flag) w) → Changes k t u f (Some w)
+  pub retallies : (w : V) → (w ≡ k.empty → ⊥) → u.seats.now ≡ set t.seats.now i (seat (at k.empty t.seats.now i).carry (at k.empty t.seats.now i).flag w) → Changes k t u f (Some w)
   retallies w some is =
-      let e = k .empty in
-      let xs = now (t .seats) in
-      let inside = sits-inside k t f i sits in
-      let s = seat (at e xs i .carry) (at e xs i .flag) w in
+      let e = k.empty in
+      let xs = t.seats.now in
+      let inside = sits_inside k t f i sits in
+      let s = seat (at e xs i).carry (at e xs i).flag w in
       record {
         shape = shape;
         long = ap length is ∙ length-set xs i s;
-        writes = λ entries shows. subst (λ ys. Shows e ys (size (t .shape)) (changed entries f (Some w))) (sym is) (retallied e (shape-sound (t .shape)) xs f i sits inside entries shows w some);
-        past = λ bucket row _ far low. ap (λ ys. at e ys (bucket * t .shape .most + row)) is ∙ past-rows e (shape-sound (t .shape)) xs f i sits inside s bucket row far low;
+        writes = λ entries shows. subst (λ ys. Shows e ys (size t.shape) (changed entries f (Some w))) (sym is) (retallied e (shape_sound t.shape) xs f i sits inside entries shows w some);
+        past = λ bucket row _ far low. ap (λ ys. at e ys (bucket * t.shape.most + row)) is ∙ past_rows e (shape_sound t.shape) xs f i sits inside s bucket row far low;
       }
 
   -- a fingerprint that sits somewhere is below the book's range
-  pub low : (b : Book V) → Keeps k t b → f < b .size .range
-  low b keeps = subst (λ (z : Size). f < z .range) (sym (keeps .sized)) (sits .below)
+  pub low : (b : Book V) → Keeps k t b → f < b.size.range
+  low b keeps = subst (λ (z : Size). f < z.range) (sym keeps.sized) sits.below
 
-module _ {V : Type 0} (k : Kind V) (rule : Meaning) (t : Table V) (key : List ℕ) (f : ℕ) (short : too-long key ≡ false) (asked : Asked k rule t key f) where
-  pub erased-none : Reads k t f None → Did k rule t (erase key) (Refused NotHeld) t
-  erased-none reads =
+module _ {V : Type 0} (k : Kind V) (rule : Meaning) (t : Table V) (key : List ℕ) (f : ℕ) (short : too_long key ≡ false) (asked : Asked k rule t key f) where
+  pub erased_none : Reads k t f None → Did k rule t (erase key) (Refused NotHeld) t
+  erased_none reads =
       unmoved k rule t (erase key) (Refused NotHeld)
-      (λ b keeps. passed b (too-long key) LongKey _ short ∙ ap (erased b (fingerprint rule b key)) (same-entry k rule t b key f None asked reads keeps))
+      (λ b keeps. passed b (too_long key) LongKey _ short ∙ ap (erased b (fingerprint rule b key)) (same_entry k rule t b key f None asked reads keeps))
 
-  pub erased-some : (u : Table V) (i : ℕ) (v : V) → SitsIn k t f i → v ≡ at (k .empty) (now (t .seats)) i .tally →
-      now (u .seats) ≡ set (now (t .seats)) i (vacant (k .empty)) → u .shape ≡ t .shape → u .held ≡ t .held - 1 → name (u .seats) ≡ name (t .seats) → Did k rule t (erase key) (Tallied v) u
-  erased-some u i v sits got seats shape fewer lent =
-      let reads = reads-some k t f i v sits got in
-      did-change k t u f None rule (erase key) (Tallied v) lent (tallied-accepts v) (written-there k rule t u key f asked i sits (vacant (k .empty)) seats)
+  pub erased_some : (u : Table V) (i : ℕ) (v : V) → SitsIn k t f i → v ≡ (at k.empty t.seats.now i).tally →
+      u.seats.now ≡ set t.seats.now i (vacant k.empty) → u.shape ≡ t.shape → u.held ≡ t.held - 1 → u.seats.ghost_name ≡ t.seats.ghost_name → Did k rule t (erase key) (Tallied v) u
+  erased_some u i v sits got seats shape fewer lent =
+      let reads = reads_some k t f i v sits got in
+      did_change k t u f None rule (erase key) (Tallied v) lent (tallied_accepts v) (written_there k rule t u key f asked i sits (vacant k.empty) seats)
       (λ b keeps. record {
         changes = empties k t u f i sits shape seats;
         turns =
-            passed b (too-long key) LongKey _ short
-            ∙ ap (erased b (fingerprint rule b key)) (same-entry k rule t b key f (Some v) asked reads keeps)
-            ∙ ap (λ n. record { answer = Tallied v; book = enter b n None }) (same-fingerprint k rule t b key f asked keeps);
+            passed b (too_long key) LongKey _ short
+            ∙ ap (erased b (fingerprint rule b key)) (same_entry k rule t b key f (Some v) asked reads keeps)
+            ∙ ap (λ n. record { answer = Tallied v; book = enter b n None }) (same_fingerprint k rule t b key f asked keeps);
         value = λ w is. absurd (none-some w is);
-        count = let one = one-fewer b f (low k t u f i sits shape b keeps) v (reads (b .entries) (keeps .shows)) in omega (arith, keeps .counted);
+        count = let one = one_fewer b f (low k t u f i sits shape b keeps) v (reads b.entries keeps.shows) in omega (arith, keeps.counted);
       })
 
-  module _ (amount : V) (real : k .is-amount amount ≡ true) where
+  module _ (amount : V) (real : k.is_amount amount ≡ true) where
     reversal : (b : Book V) (o : Option V) → Reads k t f o → Keeps k t b → turn k rule b (reverse key amount) ≡ reversed k b f amount o
     reversal b o reads keeps =
-        passed b (too-long key) LongKey _ short
-        ∙ ap (λ x. turned-away-if b (not x) NoAmount (reversed k b (fingerprint rule b key) amount (b .entries (fingerprint rule b key)))) real
-        ∙ ap (reversed k b (fingerprint rule b key) amount) (same-entry k rule t b key f o asked reads keeps)
-        ∙ ap (λ n. reversed k b n amount o) (same-fingerprint k rule t b key f asked keeps)
+        passed b (too_long key) LongKey _ short
+        ∙ ap (λ x. turned_away_if b (not x) NoAmount (reversed k b (fingerprint rule b key) amount (b.entries (fingerprint rule b key)))) real
+        ∙ ap (reversed k b (fingerprint rule b key) amount) (same_entry k rule t b key f o asked reads keeps)
+        ∙ ap (λ n. reversed k b n amount o) (same_fingerprint k rule t b key f asked keeps)
 
-    pub reversed-none : Reads k t f None → Did k rule t (reverse key amount) (Refused NotHeld) t
-    reversed-none reads = unmoved k rule t (reverse key amount) (Refused NotHeld) (λ b keeps. reversal b None reads keeps)
+    pub reversed_none : Reads k t f None → Did k rule t (reverse key amount) (Refused NotHeld) t
+    reversed_none reads = unmoved k rule t (reverse key amount) (Refused NotHeld) (λ b keeps. reversal b None reads keeps)
 
-    pub reversed-short : (v : V) → Reads k t f (Some v) → k .take-back v amount ≡ None → Did k rule t (reverse key amount) (Refused NotTakenBack) t
-    reversed-short v reads lacks = unmoved k rule t (reverse key amount) (Refused NotTakenBack) (λ b keeps. reversal b (Some v) reads keeps ∙ ap (taken-back k b f) lacks)
+    pub reversed_short : (v : V) → Reads k t f (Some v) → k.take_back v amount ≡ None → Did k rule t (reverse key amount) (Refused NotTakenBack) t
+    reversed_short v reads lacks = unmoved k rule t (reverse key amount) (Refused NotTakenBack) (λ b keeps. reversal b (Some v) reads keeps ∙ ap (taken_back k b f) lacks)
 
     -- what is taken back leaves w
-    module _ (u : Table V) (i : ℕ) (v w : V) (sits : SitsIn k t f i) (got : v ≡ at (k .empty) (now (t .seats)) i .tally) (back : k .take-back v amount ≡ Some w)
-        (shape : u .shape ≡ t .shape) (lent : name (u .seats) ≡ name (t .seats)) where
+    module _ (u : Table V) (i : ℕ) (v w : V) (sits : SitsIn k t f i) (got : v ≡ (at k.empty t.seats.now i).tally) (back : k.take_back v amount ≡ Some w)
+        (shape : u.shape ≡ t.shape) (lent : u.seats.ghost_name ≡ t.seats.ghost_name) where
       reads : Reads k t f (Some v)
-      reads = reads-some k t f i v sits got
+      reads = reads_some k t f i v sits got
 
-      leaves : (b : Book V) (gone : Bool) → k .is-empty w ≡ gone → Keeps k t b →
+      leaves : (b : Book V) (gone : Bool) → k.is_empty w ≡ gone → Keeps k t b →
           turn k rule b (reverse key amount) ≡ cond gone (record { answer = Held None; book = enter b f None }) (record { answer = Held (Some w); book = enter b f (Some w) })
       leaves b gone is keeps =
-          reversal b (Some v) reads keeps ∙ ap (taken-back k b f) back
+          reversal b (Some v) reads keeps ∙ ap (taken_back k b f) back
           ∙ ap (λ x. cond x (record { answer = Held None; book = enter b f None }) (record { answer = Held (Some w); book = enter b f (Some w) })) is
 
-      pub reversed-all : k .is-empty w ≡ true → now (u .seats) ≡ set (now (t .seats)) i (vacant (k .empty)) → u .held ≡ t .held - 1 → Did k rule t (reverse key amount) (Held None) u
-      reversed-all gone seats fewer =
-          did-change k t u f None rule (reverse key amount) (Held None) lent (held-accepts None) (written-there k rule t u key f asked i sits (vacant (k .empty)) seats)
+      pub reversed_all : k.is_empty w ≡ true → u.seats.now ≡ set t.seats.now i (vacant k.empty) → u.held ≡ t.held - 1 → Did k rule t (reverse key amount) (Held None) u
+      reversed_all gone seats fewer =
+          did_change k t u f None rule (reverse key amount) (Held None) lent (held_accepts None) (written_there k rule t u key f asked i sits (vacant k.empty) seats)
           (λ b keeps. record {
             changes = empties k t u f i sits shape seats;
             turns = leaves b true gone keeps;
             value = λ x is. absurd (none-some x is);
-            count = let one = one-fewer b f (low k t u f i sits shape b keeps) v (reads (b .entries) (keeps .shows)) in omega (arith, keeps .counted);
+            count = let one = one_fewer b f (low k t u f i sits shape b keeps) v (reads b.entries keeps.shows) in omega (arith, keeps.counted);
           })
 
-      pub reversed-part : Lawful k → k .is-empty w ≡ false → now (u .seats) ≡ set (now (t .seats)) i (seat (at (k .empty) (now (t .seats)) i .carry) (at (k .empty) (now (t .seats)) i .flag) w) → u .held ≡ t .held →
+      pub reversed_part : Lawful k → k.is_empty w ≡ false → u.seats.now ≡ set t.seats.now i (seat (at k.empty t.seats.now i).carry (at k.empty t.seats.now i).flag w) → u.held ≡ t.held →
           Did k rule t (reverse key amount) (Held (Some w)) u
-      reversed-part lawful stays seats same =
-          let some : w ≡ k .empty → ⊥ = λ is. both-ways (k .is-empty w) stays (lawful .empty-told w .1 is) in
-          did-change k t u f (Some w) rule (reverse key amount) (Held (Some w)) lent (held-accepts (Some w)) (written-there k rule t u key f asked i sits _ seats)
+      reversed_part lawful stays seats same =
+          let some : w ≡ k.empty → ⊥ = λ is. both_ways (k.is_empty w) stays ((lawful.empty_told w).1 is) in
+          did_change k t u f (Some w) rule (reverse key amount) (Held (Some w)) lent (held_accepts (Some w)) (written_there k rule t u key f asked i sits _ seats)
           (λ b keeps. record {
             changes = retallies k t u f i sits shape w some seats;
             turns = leaves b false stays keeps;
             value = λ x is.
-                let was = keeps .values f v (reads (b .entries) (keeps .shows)) in
-                ap (k .is-value) (same-some x w (sym is)) ∙ lawful .taken-back-joins v w amount was real back .0;
-            count = same ∙ keeps .counted ∙ sym (as-many b f (low k t u f i sits shape b keeps) v w (reads (b .entries) (keeps .shows)));
+                let was = keeps.values f v (reads b.entries keeps.shows) in
+                ap k.is_value (same_Some x w (sym is)) ∙ (lawful.taken_back_joins v w amount was real back).0;
+            count = same ∙ keeps.counted ∙ sym (as_many b f (low k t u f i sits shape b keeps) v w (reads b.entries keeps.shows));
           })

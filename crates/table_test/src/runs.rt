@@ -1,18 +1,13 @@
 use crate::support::stale;
-use book::answer::Answer;
-use book::answer::AnswerPartialEq;
-use book::answer::Usage;
+use book::answer::{Answer, Usage};
 use replay::replay;
 use rules::plain_number::PlainNumber;
-use rules::plain_number::PlainNumberRule;
 use seats::refusal::Refusal;
 use seats::shape::Shape;
-use std::test::*;
+use std::test::Fail;
 use table::request::Request;
 use table::table::Table;
 use tallies::replicas::Replicas;
-use tallies::replicas::ReplicasPartialEq;
-use tallies::replicas::ReplicasTally;
 
 // Posts, a widening, narrowings, a reversal and a look-up, on three buckets.
 fn nine_requests() -> [Request<'static, Replicas>; 9] {
@@ -49,7 +44,7 @@ fn nine_requests() -> [Request<'static, Replicas>; 9] {
 }
 
 #[test]
-fn nine_calls_answer_as_worked_by_hand() -> Result<(), Fail> {
+fn nine_calls_answer_as_worked_by_hand(rt: HostRuntime) -> Result<(), Fail> {
     let mut seats = [stale(); 6];
     let Ok(shape) = Shape::check(3, 2, 1, seats.len()) else {
         return Err(Fail::new("the shape is refused"));
@@ -65,14 +60,15 @@ fn nine_calls_answer_as_worked_by_hand() -> Result<(), Fail> {
         &mut words,
         &mut answers,
     );
-    check_eq(made, 9)?;
-    check(answers[0] == Answer::Tallied(Replicas(1)))?;
-    check(answers[1] == Answer::Tallied(Replicas(2)))?;
-    check(answers[2] == Answer::Refused(Refusal::NoSeating))?;
-    check(answers[3] == Answer::Sized(Usage { rows: 2, held: 2 }))?;
-    check(answers[4] == Answer::Tallied(Replicas(1)))?;
-    check(answers[5] == Answer::Refused(Refusal::NoNarrowSeating))?;
-    check(answers[6] == Answer::Held(None))?;
-    check(answers[7] == Answer::Sized(Usage { rows: 1, held: 2 }))?;
-    check(answers[8] == Answer::Held(Some(Replicas(1))))
+    assert_eq!(rt; made, 9);
+    assert!(rt; answers[0] == Answer::Tallied(Replicas(1)));
+    assert!(rt; answers[1] == Answer::Tallied(Replicas(2)));
+    assert!(rt; answers[2] == Answer::Refused(Refusal::NoSeating));
+    assert!(rt; answers[3] == Answer::Sized(Usage { rows: 2, held: 2 }));
+    assert!(rt; answers[4] == Answer::Tallied(Replicas(1)));
+    assert!(rt; answers[5] == Answer::Refused(Refusal::NoNarrowSeating));
+    assert!(rt; answers[6] == Answer::Held(None));
+    assert!(rt; answers[7] == Answer::Sized(Usage { rows: 1, held: 2 }));
+    assert!(rt; answers[8] == Answer::Held(Some(Replicas(1))));
+    Ok(())
 }

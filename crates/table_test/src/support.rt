@@ -11,8 +11,8 @@ pub(crate) fn stale() -> Seat<Replicas> {
     }
 }
 
-pub(crate) fn number_of<X: Drop>(result: Result<X, Refusal>) -> u8 {
-    match result {
+pub(crate) fn number_of<X: Drop>(outcome: Result<X, Refusal>) -> u8 {
+    match outcome {
         Ok(_) => 0,
         Err(refusal) => refusal.number(),
     }

@@ -1,3 +1,4 @@
 pub mod Kinds
 pub mod Replicas
 pub mod Traffic
+pub mod Sums

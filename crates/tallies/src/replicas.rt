@@ -1,16 +1,20 @@
-ghost use Rattle·tallies·specs.Replicas.{replicas-kind, replicas-kind-number};
+ghost use Rattle.tallies.specs.Replicas.{replicas_kind, replicas_kind_number};
+ghost use Rattle.std.proofs.Common.{rules};
+
 use crate::tally::Tally;
 
 // A count of replicas.
 #[derive(Clone, Copy, PartialEq, Eq, Debug)]
 pub struct Replicas(pub u32);
 
-pub impl Tally for Replicas as ReplicasTally {
-    ghost kind = { replicas-kind };
+impl Tally for Replicas {
+    ghost kind = { replicas_kind };
 
-    ghost number = { replicas-kind-number };
+    ghost number = { replicas_kind_number };
 
     const NUMBER: u8 = 1;
+
+    ghost lawful = { Prim.search rules };
 
     fn kind_number() -> u8 {
         Self::NUMBER

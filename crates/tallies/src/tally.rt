@@ -1,13 +1,10 @@
-ghost use mathlib.Core.Path.{_≡_};
-ghost use Prim.Native.Nat.{ℕ};
-ghost use Rattle·tallies·specs.Kinds.{Kind, Lawful};
+ghost use Rattle.std.specs.Prelude.{◌≡◌, ℕ};
+ghost use Rattle.tallies.specs.Kinds.{Kind, Lawful};
 
 // A kind of tally. `kind` is its meaning, and `lawful` says that it keeps the laws of one.
 // No method changes what it is given.
 pub trait Tally: Sized {
     ghost kind: { Kind Self };
-
-    law lawful: { Lawful kind };
 
     // The number by which papers name the kind, or 0 if they name it by none.
     ghost number: { ℕ };
@@ -17,29 +14,27 @@ pub trait Tally: Sized {
 
     // The kind's number.
     fn kind_number() -> u8
-        ensures { λ r. ⌜ r ≡ number ⌝ };
+        ensures { result ≡ number };
 
     // The value of what is not held.
     fn empty() -> Self
-        ensures { λ r. ⌜ r ≡ kind .empty ⌝ };
+        ensures { result ≡ kind.empty };
 
     // Whether this is the empty value.
     fn is_empty(&self) -> bool
-        ensures value { λ r. ⌜ r ≡ kind .is-empty (now (self .entry)) ⌝ }
-        ensures kept { λ _. ⌜ now (self .exit) ≡ now (self .entry) ⌝ };
+        ensures value { result ≡ kind.is_empty self.now };
 
     // Whether this may be joined or taken back.
     fn is_amount(&self) -> bool
-        ensures value { λ r. ⌜ r ≡ kind .is-amount (now (self .entry)) ⌝ }
-        ensures kept { λ _. ⌜ now (self .exit) ≡ now (self .entry) ⌝ };
+        ensures value { result ≡ kind.is_amount self.now };
 
     // The value with the amount joined to it, or nothing where that passes the ceiling.
     fn join(&self, amount: &Self) -> Option<Self>
-        ensures value { λ r. ⌜ r ≡ kind .join (now (self .entry)) (now (amount .entry)) ⌝ }
-        ensures kept { λ _. ⌜ (now (self .exit) ≡ now (self .entry)) × (now (amount .exit) ≡ now (amount .entry)) ⌝ };
+        ensures value { result ≡ kind.join self.now amount.now };
 
     // The value that, joined with the amount, makes this one, or nothing if there is none.
     fn take_back(&self, amount: &Self) -> Option<Self>
-        ensures value { λ r. ⌜ r ≡ kind .take-back (now (self .entry)) (now (amount .entry)) ⌝ }
-        ensures kept { λ _. ⌜ (now (self .exit) ≡ now (self .entry)) × (now (amount .exit) ≡ now (amount .entry)) ⌝ };
+        ensures value { result ≡ kind.take_back self.now amount.now };
+
+    ghost lawful: { Lawful kind };
 }

@@ -1,4 +1,6 @@
-ghost use Rattle·tallies·specs.Traffic.{traffic-kind, traffic-kind-number};
+ghost use Rattle.tallies.specs.Traffic.{traffic_kind, traffic_kind_number};
+ghost use Rattle.tallies.specs.Sums.{traffic_lawful};
+
 use crate::tally::Tally;
 
 // The most octets that a tally holds. Packets have the whole of their type.
@@ -11,12 +13,14 @@ pub struct Traffic {
     pub octets: u64,
 }
 
-pub impl Tally for Traffic as TrafficTally {
-    ghost kind = { traffic-kind };
+impl Tally for Traffic {
+    ghost kind = { traffic_kind };
 
-    ghost number = { traffic-kind-number };
+    ghost number = { traffic_kind_number };
 
     const NUMBER: u8 = 2;
+
+    ghost lawful = { traffic_lawful };
 
     fn kind_number() -> u8 {
         Self::NUMBER

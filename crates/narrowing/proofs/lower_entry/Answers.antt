@@ -1,97 +1,93 @@
-use mathlib.Core.Path.{_≡_, refl, sym, ap, subst, _∙_}
-use Prim.Native.Nat.{_+_, _-_, _*_, _<_}
-use borrow.Author.Needs.{needs}
-use native.Mathlib.Omega.{arith}
-use lib.ListN.{length}
-use Rattle·std.proofs.shelf.Lists.{getD-read}
-use Rattle·std.proofs.shelf.Tests.{both-ways}
-use Rattle·moves.specs.Placed.{Accepted, Refused, SparesPast, place-refusal}
-use Rattle·seats.specs.declared.seat.Seat.{Seat}
-use Rattle·seats.specs.Shapes.{Size, size}
-use Rattle·seats.specs.Seats.{at, vacant}
-use Rattle·seats.proofs.Sitting.{shape-sound}
-use Rattle·narrowing·specs.Narrowed.{last-seat}
-use Rattle·narrowing·proofs.Lowering.{inside, nothing-there, no-fingerprint, no-seat, seat-below}
-use Rattle·narrowing·proofs.lower_entry.Needs as need
+use Rattle.std.proofs.Common.{◌≡◌, ◌+◌, ◌-◌, ◌*◌, ◌<◌, length, sym, refl, ap, ◌∙◌, subst, arith, rules}
+use Rattle.std.proofs.lemmas.List.{get_or_read}
+use Rattle.std.proofs.lemmas.Bool.{both_ways}
+use Rattle.moves.specs.Placed.{Accepted, Refused, SparesPast, place_refusal}
+use Rattle.seats.specs.declared.seat.Seat.{Seat}
+use Rattle.seats.specs.Shapes.{Size, size}
+use Rattle.seats.specs.Seats.{at, vacant}
+use Rattle.seats.proofs.Sitting.{shape_sound}
+use Rattle.narrowing.specs.Narrowed.{last_seat}
+use Rattle.narrowing.proofs.Lowering.{inside, nothing_there, no_fingerprint, no_seat, seat_below}
+use Rattle.narrowing.proofs.lower_entry.Goals as goal
 
-pub offset-seats-i : need.offset-seats-i
-offset-seats-i g c =
-    let low : c .args .bucket * c .args .shape .most + (c .args .shape .rows - 1) < length (c .args .seats .now) = omega (arith, inside (g .T·Tally .kind .empty) (shape-sound (c .args .shape)) (c .pre .lower .0) (c .args .bucket) (c .pre .sizes .2)) in
-    search needs
+pub offset_bounds-seats-i : goal.offset_bounds-seats-i
+offset_bounds-seats-i g c =
+    let low : c.args.bucket * c.args.shape.most + (c.args.shape.rows - 1) < length c.args.seats.now = omega (arith, inside g.T.Tally.kind.empty (shape_sound c.args.shape) c.requires.lower.0 c.args.bucket c.requires.sizes.2) in
+    search rules
 
-pub index-seats-i : need.index-seats-i
-index-seats-i g c = omega (arith, inside (g .T·Tally .kind .empty) (shape-sound (c .args .shape)) (c .pre .lower .0) (c .args .bucket) (c .pre .sizes .2))
+pub bounds-seats-i : goal.bounds-seats-i
+bounds-seats-i g c = omega (arith, inside g.T.Tally.kind.empty (shape_sound c.args.shape) c.requires.lower.0 c.args.bucket c.requires.sizes.2)
 
-pub vacate-tally-requires : need.vacate-tally-requires
-vacate-tally-requires g c κs = omega (arith, inside (g .T·Tally .kind .empty) (shape-sound (c .args .shape)) (c .pre .lower .0) (c .args .bucket) (c .pre .sizes .2))
+pub vacate-tally-requires : goal.vacate-tally-requires
+vacate-tally-requires g c = omega (arith, inside g.T.Tally.kind.empty (shape_sound c.args.shape) c.requires.lower.0 c.args.bucket c.requires.sizes.2)
 
-pub returns-then-is-empty : need.returns-then-is-empty
-returns-then-is-empty g c =
-    let k = g .T·Tally .kind in
-    let sound = shape-sound (c .args .shape) in
-    let xs = c .args .seats .now in
-    let i = last-seat (size (c .args .shape)) (c .args .bucket) in
-    let low : i < length xs = omega (arith, inside (k .empty) sound (c .pre .lower .0) (c .args .bucket) (c .pre .sizes .2)) in
-    let s = c .index-seats-i .result in
-    let read : s ≡ at (k .empty) xs i = getD-read xs i s low (c .index-seats-i .is) (vacant (k .empty)) in
+pub returns-then-is_empty : goal.returns-then-is_empty
+returns-then-is_empty g c =
+    let k = g.T.Tally.kind in
+    let sound = shape_sound c.args.shape in
+    let xs = c.args.seats.now in
+    let i = last_seat (size c.args.shape) c.args.bucket in
+    let low : i < length xs = omega (arith, inside k.empty sound c.requires.lower.0 c.args.bucket c.requires.sizes.2) in
+    let s = c.index-seats-i.result in
+    let read : s ≡ at k.empty xs i = get_or_read xs i s low c.index-seats-i.is (vacant k.empty) in
     record {
       lowered =
-          nothing-there (k .empty) sound (c .pre .lower .0) k refl (g .T·Tally·met .lawful) xs (c .args .bucket) (c .pre .sizes .2) s read
-          (g .T·Tally·met .lawful .empty-told (s .tally) .0 (sym (c .if-is-empty .ensures tt .value)));
+          nothing_there k.empty sound c.requires.lower.0 k refl g.met.T.Tally.lawful xs c.args.bucket c.requires.sizes.2 s read
+          ((g.met.T.Tally.lawful.empty_told s.tally).0 (sym c.if-is_empty.ensures.value));
       idle = λ _. (refl, refl);
       past = refl;
     }
 
-pub returns-in-rest : need.returns-in-rest
-returns-in-rest g c =
-    let k = g .T·Tally .kind in
-    let sound = shape-sound (c .args .shape) in
-    let xs = c .args .seats .now in
-    let i = last-seat (size (c .args .shape)) (c .args .bucket) in
-    let low : i < length xs = omega (arith, inside (k .empty) sound (c .pre .lower .0) (c .args .bucket) (c .pre .sizes .2)) in
-    let s = c .index-seats-i .result in
-    let read : s ≡ at (k .empty) xs i = getD-read xs i s low (c .index-seats-i .is) (vacant (k .empty)) in
-    let some : s .tally ≡ k .empty → ⊥ = λ is. both-ways (k .is-empty (s .tally)) (sym (c .if-is-empty .ensures tt .value)) (g .T·Tally·met .lawful .empty-told (s .tally) .1 is) in
+pub returns-in_default : goal.returns-in_default
+returns-in_default g c =
+    let k = g.T.Tally.kind in
+    let sound = shape_sound c.args.shape in
+    let xs = c.args.seats.now in
+    let i = last_seat (size c.args.shape) c.args.bucket in
+    let low : i < length xs = omega (arith, inside k.empty sound c.requires.lower.0 c.args.bucket c.requires.sizes.2) in
+    let s = c.index-seats-i.result in
+    let read : s ≡ at k.empty xs i = get_or_read xs i s low c.index-seats-i.is (vacant k.empty) in
+    let some : s.tally ≡ k.empty → ⊥ = λ is. both_ways (k.is_empty s.tally) (sym c.if-is_empty.ensures.value) ((g.met.T.Tally.lawful.empty_told s.tally).1 is) in
     record {
-      lowered = no-fingerprint (k .empty) sound (c .pre .lower .0) k refl (g .T·Tally·met .lawful) xs (c .args .bucket) (c .pre .sizes .2) s read some (c .in-rest .ensures tt);
+      lowered = no_fingerprint k.empty sound c.requires.lower.0 k refl g.met.T.Tally.lawful xs c.args.bucket c.requires.sizes.2 s read some c.in_default.ensures;
       idle = λ _. (refl, refl);
       past = refl;
     }
 
-pub returns-in-Err : need.returns-in-Err
+pub returns-in-Err : goal.returns-in-Err
 returns-in-Err g c =
-    let k = g .T·Tally .kind in
-    let sound = shape-sound (c .args .shape) in
-    let xs = c .args .seats .now in
-    let i = last-seat (size (c .args .shape)) (c .args .bucket) in
-    let low : i < length xs = omega (arith, inside (k .empty) sound (c .pre .lower .0) (c .args .bucket) (c .pre .sizes .2)) in
-    let s = c .index-seats-i .result in
-    let read : s ≡ at (k .empty) xs i = getD-read xs i s low (c .index-seats-i .is) (vacant (k .empty)) in
-    let some : s .tally ≡ k .empty → ⊥ = λ is. both-ways (k .is-empty (s .tally)) (sym (c .if-is-empty .ensures tt .value)) (g .T·Tally·met .lawful .empty-told (s .tally) .1 is) in
-    let refused = subst (λ (z : Size). Refused (k .empty) xs (c .place .last .seats) z (c .in-Some .fingerprint) (place-refusal k xs z (s .tally) (length (c .args .words .now))) (c .in-Err .field-0)) (c .pre .lower .1) (c .in-Err .ensures tt .placed) in
+    let k = g.T.Tally.kind in
+    let sound = shape_sound c.args.shape in
+    let xs = c.args.seats.now in
+    let i = last_seat (size c.args.shape) c.args.bucket in
+    let low : i < length xs = omega (arith, inside k.empty sound c.requires.lower.0 c.args.bucket c.requires.sizes.2) in
+    let s = c.index-seats-i.result in
+    let read : s ≡ at k.empty xs i = get_or_read xs i s low c.index-seats-i.is (vacant k.empty) in
+    let some : s.tally ≡ k.empty → ⊥ = λ is. both_ways (k.is_empty s.tally) (sym c.if-is_empty.ensures.value) ((g.met.T.Tally.lawful.empty_told s.tally).1 is) in
+    let refused = subst (λ (z : Size). Refused k.empty xs c.place.new.seats z c.in-Some.fingerprint (place_refusal k xs z s.tally (length c.args.words.now)) c.in-Err.field-0) c.requires.lower.1 c.in-Err.ensures.placed in
     record {
       lowered =
-          no-seat (k .empty) sound (c .pre .lower .0) k refl (g .T·Tally·met .lawful) xs (c .args .bucket) (c .pre .sizes .2) s read some
-          (c .in-Some .fingerprint) (c .in-Some .ensures tt .0) (c .place .last .seats) (length (c .args .words .now)) (c .in-Err .field-0) (c .pre .sizes .0) (c .pre .sizes .1) refused;
-      idle = λ is. absurd (some (ap (λ (x : Seat _). x .tally) read ∙ is));
-      past = subst (λ (z : Size). SparesPast (2 * z .buckets) (c .args .words .now) (c .place .last .words)) (c .pre .lower .1) (c .in-Err .ensures tt .past);
+          no_seat k.empty sound c.requires.lower.0 k refl g.met.T.Tally.lawful xs c.args.bucket c.requires.sizes.2 s read some
+          c.in-Some.fingerprint c.in-Some.ensures.0 c.place.new.seats (length c.args.words.now) c.in-Err.field-0 c.requires.sizes.0 c.requires.sizes.1 refused;
+      idle = λ is. absurd (some (ap (λ (x : Seat _). x.tally) read ∙ is));
+      past = subst (λ (z : Size). SparesPast (2 * z.buckets) c.args.words.now c.place.new.words) c.requires.lower.1 c.in-Err.ensures.past;
     }
 
-pub returns-in-Ok : need.returns-in-Ok
+pub returns-in-Ok : goal.returns-in-Ok
 returns-in-Ok g c =
-    let k = g .T·Tally .kind in
-    let sound = shape-sound (c .args .shape) in
-    let xs = c .args .seats .now in
-    let i = last-seat (size (c .args .shape)) (c .args .bucket) in
-    let low : i < length xs = omega (arith, inside (k .empty) sound (c .pre .lower .0) (c .args .bucket) (c .pre .sizes .2)) in
-    let s = c .index-seats-i .result in
-    let read : s ≡ at (k .empty) xs i = getD-read xs i s low (c .index-seats-i .is) (vacant (k .empty)) in
-    let some : s .tally ≡ k .empty → ⊥ = λ is. both-ways (k .is-empty (s .tally)) (sym (c .if-is-empty .ensures tt .value)) (g .T·Tally·met .lawful .empty-told (s .tally) .1 is) in
-    let accepted = subst (λ (z : Size). Accepted (k .empty) xs (c .place .last .seats) z (c .in-Some .fingerprint) (s .tally)) (c .pre .lower .1) (c .in-Ok .ensures tt .placed .1) in
+    let k = g.T.Tally.kind in
+    let sound = shape_sound c.args.shape in
+    let xs = c.args.seats.now in
+    let i = last_seat (size c.args.shape) c.args.bucket in
+    let low : i < length xs = omega (arith, inside k.empty sound c.requires.lower.0 c.args.bucket c.requires.sizes.2) in
+    let s = c.index-seats-i.result in
+    let read : s ≡ at k.empty xs i = get_or_read xs i s low c.index-seats-i.is (vacant k.empty) in
+    let some : s.tally ≡ k.empty → ⊥ = λ is. both_ways (k.is_empty s.tally) (sym c.if-is_empty.ensures.value) ((g.met.T.Tally.lawful.empty_told s.tally).1 is) in
+    let accepted = subst (λ (z : Size). Accepted k.empty xs c.place.new.seats z c.in-Some.fingerprint s.tally) c.requires.lower.1 c.in-Ok.ensures.placed.1 in
     record {
       lowered =
-          seat-below (k .empty) sound (c .pre .lower .0) k refl (g .T·Tally·met .lawful) xs (c .args .bucket) (c .pre .sizes .2) s read some
-          (c .in-Some .fingerprint) (c .in-Some .ensures tt .0) (c .place .last .seats) (c .vacate-tally .last .seats) (omega (arith, c .place .kept .seats)) accepted (c .vacate-tally .ensures .after);
-      idle = λ is. absurd (some (ap (λ (x : Seat _). x .tally) read ∙ is));
-      past = subst (λ (z : Size). SparesPast (2 * z .buckets) (c .args .words .now) (c .place .last .words)) (c .pre .lower .1) (c .in-Ok .ensures tt .past);
+          seat_below k.empty sound c.requires.lower.0 k refl g.met.T.Tally.lawful xs c.args.bucket c.requires.sizes.2 s read some
+          c.in-Some.fingerprint c.in-Some.ensures.0 c.place.new.seats c.vacate-tally.new.seats (omega (arith, c.place.auto.seats)) accepted c.vacate-tally.ensures.after;
+      idle = λ is. absurd (some (ap (λ (x : Seat _). x.tally) read ∙ is));
+      past = subst (λ (z : Size). SparesPast (2 * z.buckets) c.args.words.now c.place.new.words) c.requires.lower.1 c.in-Ok.ensures.past;
     }

@@ -1,20 +1,18 @@
-ghost use mathlib.Core.Path.{_≡_};
-ghost use mathlib.Core.Bool.{true};
-ghost use Rattle·std.specs.Results.{isOk};
-ghost use Rattle·paper·specs.Checks.{paper-checked};
-ghost use Rattle·paper·specs.Reading.{first-of, others-of, paper-records};
-ghost use Rattle·paper·specs.Walking.{records-left};
+ghost use Rattle.std.specs.Prelude.{◌≡◌, true, is_ok};
+ghost use Rattle.paper.specs.Checks.{paper_checked};
+ghost use Rattle.paper.specs.Reading.{first_of, others_of, paper_records};
+ghost use Rattle.paper.specs.Walking.{records_left};
+
 use super::Reader;
-use crate::layout::FRONT;
-use crate::layout::RECORD;
+use crate::layout::{FRONT, RECORD};
 use crate::record::Record;
 use blocks::block::BLOCK;
 
 impl<'a> Reader<'a> {
     // A cursor at the first record of a paper that was found sound.
     pub fn new(paper: &'a [u8]) -> Reader<'a>
-        requires { ⌜ isOk (paper-checked (now paper)) ≡ true ⌝ }
-        ensures { λ r. ⌜ records-left r ≡ paper-records (now (paper .entry)) ⌝ }
+        requires { is_ok (paper_checked paper.now) ≡ true }
+        ensures { records_left result ≡ paper_records paper.now }
     {
         Reader {
             paper,
@@ -25,8 +23,8 @@ impl<'a> Reader<'a> {
 
     // The next record, if there is one, and a step behind it.
     pub fn next(&mut self) -> Option<Record>
-        ensures gives { λ r. ⌜ r ≡ first-of (records-left (now (self .entry))) ⌝ }
-        ensures leaves { λ _. ⌜ records-left (now (self .exit)) ≡ others-of (records-left (now (self .entry))) ⌝ }
+        ensures gives { result ≡ first_of (records_left self.old) }
+        ensures leaves { records_left self.new ≡ others_of (records_left self.old) }
     {
         let start = BLOCK * self.block;
         if start >= self.paper.len() {

@@ -1,46 +1,43 @@
-use mathlib.Core.Path.{_≡_, refl, sym, ap, subst, _∙_}
-use Prim.Native.Nat.{_+_, _<_}
-use native.Mathlib.Omega.{arith}
-use lib.ListN.{length, drop, take}
-use Rattle·std.proofs.shelf.Lists.{drop-drop, drop-set-lt}
-use Rattle·moves.specs.Placed.{SparesPast}
-use Rattle·table.specs.Tables.{Did}
-use Rattle·table.specs.Requests.{asked, words-asked}
-use Rattle·replay·specs.Replayed.{all-asked, most-asked, Replayed}
-use Rattle·replay·proofs.Accounts.{account}
-use Rattle·replay·proofs.Replaying.{spares-more, replayed-none, replayed-more}
-use Rattle·replay·proofs.replay.Needs as need
+use Rattle.std.proofs.Common.{◌≡◌, ◌+◌, ◌<◌, length, take, drop, sym, refl, ap, ◌∙◌, subst, arith}
+use Rattle.std.proofs.lemmas.List.{drop-drop, drop-set-lt}
+use Rattle.moves.specs.Placed.{SparesPast}
+use Rattle.table.specs.Tables.{Did}
+use Rattle.table.specs.Requests.{asked, words_asked}
+use Rattle.replay.specs.Replayed.{all_asked, most_asked, Replayed}
+use Rattle.replay.proofs.Accounts.{account}
+use Rattle.replay.proofs.Replaying.{spares_more, replayed_none, replayed_more}
+use Rattle.replay.proofs.replay.Goals as goal
 
-pub loop-i-holds : need.loop-i-holds
-loop-i-holds g c = (refl, refl, replayed-none _ _ _)
+pub loop-i-init : goal.loop-i-init
+loop-i-init g c = (refl, refl, replayed_none _ _ _)
 
-pub loop-i-again : need.loop-i-again
-loop-i-again g c =
-    let k = g .T·Tally .kind in
-    let rule = g .R·Rule .meaning (c .args .rule .now) in
-    let i = c .loop-i .i in
-    let xs = c .loop-i .answers in
-    let low : i < length (c .args .requests .now) = omega arith in
+pub loop-i-preserved : goal.loop-i-preserved
+loop-i-preserved g c =
+    let k = g.T.Tally.kind in
+    let rule = g.R.Rule.meaning c.args.rule.now in
+    let i = c.loop-i.i in
+    let xs = c.loop-i.answers in
+    let low : i < length c.args.requests.now = omega arith in
     let room : i < length xs = omega arith in
     let past : i < i + 1 = omega arith in
-    let did = subst (λ n. Did k rule (c .loop-i .table) (asked n (c .index-requests-i .result)) (c .call-answer .result) (c .call-answer .last .self)) (c .loop-i .kept .words) (c .call-answer .ensures .did) in (
-      ap (drop (i + 1)) (c .note .ensures) ∙ drop-set-lt (i + 1) xs i (c .call-answer .result) past
-          ∙ sym (drop-drop 1 i xs) ∙ ap (drop 1) (c .loop-i .inv .0) ∙ drop-drop 1 i (c .args .answers .now),
-      spares-more (length (c .args .words .now)) i (c .args .requests .now) (c .index-requests-i .result) (c .args .words .now) (c .loop-i .words) (c .call-answer .last .words) low (c .index-requests-i .is) (c .loop-i .inv .1)
-          (subst (λ n. SparesPast (words-asked n (c .index-requests-i .result)) (c .loop-i .words) (c .call-answer .last .words)) (c .loop-i .kept .words) (c .call-answer .ensures .past)),
-      replayed-more k rule (c .args .table .now) (c .loop-i .table) (c .call-answer .last .self) (length (c .args .words .now)) i (c .args .requests .now) (c .index-requests-i .result)
-          xs (c .note .last .answers) (c .call-answer .result) low (c .index-requests-i .is) room (c .note .ensures) (c .loop-i .inv .2) did,
+    let did = subst (λ n. Did k rule c.loop-i.table (asked n c.index-requests-i.result) c.call-answer.result c.call-answer.new.self) c.loop-i.auto.words c.call-answer.ensures.did in (
+      ap (drop (i + 1)) c.note.ensures ∙ drop-set-lt (i + 1) xs i c.call-answer.result past
+          ∙ sym (drop-drop 1 i xs) ∙ ap (drop 1) c.loop-i.invariant.0 ∙ drop-drop 1 i c.args.answers.now,
+      spares_more (length c.args.words.now) i c.args.requests.now c.index-requests-i.result c.args.words.now c.loop-i.words c.call-answer.new.words low c.index-requests-i.is c.loop-i.invariant.1
+          (subst (λ n. SparesPast (words_asked n c.index-requests-i.result) c.loop-i.words c.call-answer.new.words) c.loop-i.auto.words c.call-answer.ensures.past),
+      replayed_more k rule c.args.table.now c.loop-i.table c.call-answer.new.self (length c.args.words.now) i c.args.requests.now c.index-requests-i.result
+          xs c.note.new.answers c.call-answer.result low c.index-requests-i.is room c.note.ensures c.loop-i.invariant.2 did,
     )
 
-pub returns : need.returns
+pub returns : goal.returns
 returns g c =
-    let k = g .T·Tally .kind in
-    let rule = g .R·Rule .meaning (c .args .rule .now) in
-    let all : c .loop-i .i ≡ c .min-count .result = omega arith in
+    let k = g.T.Tally.kind in
+    let rule = g.R.Rule.meaning c.args.rule.now in
+    let all : c.loop-i.i ≡ c.min-count.result = omega arith in
     record {
-      made = c .min-count .ensures;
-      replayed = subst (λ n. Replayed k rule (c .args .table .now) (all-asked (length (c .args .words .now)) (take n (c .args .requests .now))) (take n (c .loop-i .answers)) (c .loop-i .table)) all (c .loop-i .inv .2);
-      words = subst (λ n. SparesPast (most-asked (length (c .args .words .now)) (take n (c .args .requests .now))) (c .args .words .now) (c .loop-i .words)) all (c .loop-i .inv .1);
-      rest = subst (λ n. drop n (c .loop-i .answers) ≡ drop n (c .args .answers .now)) all (c .loop-i .inv .0);
+      made = c.min-count.ensures;
+      replayed = subst (λ n. Replayed k rule c.args.table.now (all_asked (length c.args.words.now) (take n c.args.requests.now)) (take n c.loop-i.answers) c.loop-i.table) all c.loop-i.invariant.2;
+      words = subst (λ n. SparesPast (most_asked (length c.args.words.now) (take n c.args.requests.now)) c.args.words.now c.loop-i.words) all c.loop-i.invariant.1;
+      rest = subst (λ n. drop n c.loop-i.answers ≡ drop n c.args.answers.now) all c.loop-i.invariant.0;
       account = account k rule;
     }

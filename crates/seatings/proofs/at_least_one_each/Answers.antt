@@ -1,5 +1,5 @@
-use Rattle·seatings·proofs.Pigeons.{pigeons-many}
-use Rattle·seatings·proofs.at_least_one_each.Needs as need
+use Rattle.seatings.proofs.Pigeons.{pigeons_many}
+use Rattle.seatings.proofs.at_least_one_each.Goals as goal
 
-pub returns : need.returns
-returns c = pigeons-many
+pub returns : goal.returns
+returns c = pigeons_many

@@ -1,5 +1,5 @@
-use Rattle·seatings·proofs.Pigeons.{pigeons-few}
-use Rattle·seatings·proofs.at_most_one_each.Needs as need
+use Rattle.seatings.proofs.Pigeons.{pigeons_few}
+use Rattle.seatings.proofs.at_most_one_each.Goals as goal
 
-pub returns : need.returns
-returns c = pigeons-few
+pub returns : goal.returns
+returns c = pigeons_few

@@ -1,5 +1,5 @@
-use Rattle·seatings·proofs.Full.{full-and-closed}
-use Rattle·seatings·proofs.full_and_closed_has_no_seating.Needs as need
+use Rattle.seatings.proofs.Full.{full_and_closed}
+use Rattle.seatings.proofs.full_and_closed_has_no_seating.Goals as goal
 
-pub returns : need.returns
-returns c = full-and-closed
+pub returns : goal.returns
+returns c = full_and_closed

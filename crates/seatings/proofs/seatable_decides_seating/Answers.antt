@@ -1,5 +1,5 @@
-use Rattle·seatings·proofs.Decided.{seatable-decides}
-use Rattle·seatings·proofs.seatable_decides_seating.Needs as need
+use Rattle.seatings.proofs.Decided.{seatable_decides}
+use Rattle.seatings.proofs.seatable_decides_seating.Goals as goal
 
-pub returns : need.returns
-returns c = seatable-decides
+pub returns : goal.returns
+returns c = seatable_decides

@@ -1,5 +1,5 @@
-use Rattle·seatings·proofs.Fewer.{seating-fewer}
-use Rattle·seatings·proofs.seating_of_more_is_seating_of_fewer.Needs as need
+use Rattle.seatings.proofs.Fewer.{seating_fewer}
+use Rattle.seatings.proofs.seating_of_more_is_seating_of_fewer.Goals as goal
 
-pub returns : need.returns
-returns c = seating-fewer
+pub returns : goal.returns
+returns c = seating_fewer

@@ -1,7 +1,7 @@
-ghost use mathlib.Core.Path.{_≡_};
-ghost use Prim.Native.Nat.{_*_, _<_};
-ghost use Rattle·std.specs.NonZero.{of-u32};
-ghost use Rattle·seats·specs.Shapes.{Checked, size};
+ghost use Rattle.std.specs.Prelude.{◌≡◌, ◌*◌, ◌<◌};
+ghost use Rattle.std.specs.NonZero.{non_zero_u32_get};
+ghost use Rattle.seats.specs.Shapes.{Checked, size};
+
 use super::Shape;
 use crate::refusal::Refusal;
 use std::num::NonZeroU32;
@@ -9,7 +9,7 @@ use std::num::NonZeroU32;
 impl Shape {
     // The shape of these numbers, for a table that is lent so many seats, or what is wrong with them.
     pub fn check(buckets: u32, most: u32, rows: u32, seats: usize) -> Result<Shape, Refusal>
-        ensures { λ r. ⌜ Checked buckets most rows seats r ⌝ }
+        ensures { Checked buckets most rows seats result }
     {
         if buckets < 2 || buckets > 4096 {
             return Err(Refusal::Buckets);
@@ -29,14 +29,14 @@ impl Shape {
 
     // Fingerprints are the numbers below this one.
     pub fn range(self) -> NonZeroU32
-        ensures { λ r. ⌜ of-u32 r ≡ size self .range ⌝ }
+        ensures { non_zero_u32_get result ≡ (size self).range }
     {
         NonZeroU32::new(self.buckets * (self.buckets - 1)).unwrap()
     }
 
     // How many seats the table is lent.
     pub fn seats(self) -> usize
-        ensures { λ r. ⌜ r ≡ self .buckets * self .most ⌝ }
+        ensures { result ≡ self.buckets * self.most }
     {
         (self.buckets * self.most) as usize
     }

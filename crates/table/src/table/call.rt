@@ -1,9 +1,10 @@
 // The call that a request asks for.
-ghost use lib.ListN.{length};
-ghost use Rattle·moves.specs.Placed.{SparesPast};
-ghost use Rattle·table·specs.Tables.{Did};
-ghost use Rattle·table·specs.Requests.{asked, words-asked};
-ghost use Rattle·table·specs.Words.{Uses};
+ghost use Rattle.std.specs.Prelude.{length};
+ghost use Rattle.moves.specs.Placed.{SparesPast};
+ghost use Rattle.table.specs.Tables.{Did};
+ghost use Rattle.table.specs.Requests.{asked, words_asked};
+ghost use Rattle.table.specs.Words.{Uses};
+
 use super::Table;
 use crate::request::Request;
 use book::answer::Answer;
@@ -18,9 +19,9 @@ impl<T: Tally + Copy> Table<'_, T> {
         request: &Request<'_, T>,
         words: &mut [u32],
     ) -> Answer<T>
-        ensures did { λ a. ⌜ Did (T·Tally .kind) (R·Rule .meaning (now (rule .entry))) (now (self .entry)) (asked (length (now (words .entry))) (now (request .entry))) a (now (self .exit)) ⌝ }
-        ensures words { λ a. ⌜ Uses (T·Tally .kind) (R·Rule .meaning (now (rule .entry))) (now (self .entry)) (asked (length (now (words .entry))) (now (request .entry))) a (now (words .entry)) (now (words .exit)) ⌝ }
-        ensures past { λ _. ⌜ SparesPast (words-asked (length (now (words .entry))) (now (request .entry))) (now (words .entry)) (now (words .exit)) ⌝ }
+        ensures did { Did T.Tally.kind (R.Rule.meaning rule.now) self.old (asked (length words.old) request.now) result self.new }
+        ensures words { Uses T.Tally.kind (R.Rule.meaning rule.now) self.old (asked (length words.old) request.now) result words.old words.new }
+        ensures past { SparesPast (words_asked (length words.old) request.now) words.old words.new }
     {
         match request {
             Request::Post {

@@ -1,19 +1,18 @@
 // Erasing and reversing.
-ghost use Rattle·book.specs.Answers.{of-held, of-tally};
-ghost use Rattle·book.specs.Books.{erase as erasing, reverse as reversing};
-ghost use Rattle·table·specs.Tables.{Did};
-use super::LONGEST;
-use super::Table;
+ghost use Rattle.book.specs.Answers.{of_held, of_tally};
+ghost use Rattle.book.specs.Books.{erase as erasing, reverse as reversing};
+ghost use Rattle.table.specs.Tables.{Did};
+
+use super::{LONGEST, Table};
 use rules::rule::Rule;
 use seats::refusal::Refusal;
-use seats::write::retally;
-use seats::write::vacate;
+use seats::write::{retally, vacate};
 use tallies::tally::Tally;
 
 impl<T: Tally + Copy> Table<'_, T> {
     // Takes the key's fingerprint out, and gives the tally that it had.
     pub fn erase<R: Rule>(&mut self, rule: &R, key: &[u8]) -> Result<T, Refusal>
-        ensures { λ r. ⌜ Did (T·Tally .kind) (R·Rule .meaning (now (rule .entry))) (now (self .entry)) (erasing (now (key .entry))) (of-tally r) (now (self .exit)) ⌝ }
+        ensures { Did T.Tally.kind (R.Rule.meaning rule.now) self.old (erasing key.now) (of_tally result) self.new }
     {
         if key.len() > LONGEST {
             return Err(Refusal::LongKey);
@@ -35,7 +34,7 @@ impl<T: Tally + Copy> Table<'_, T> {
         key: &[u8],
         amount: T,
     ) -> Result<Option<T>, Refusal>
-        ensures { λ r. ⌜ Did (T·Tally .kind) (R·Rule .meaning (now (rule .entry))) (now (self .entry)) (reversing (now (key .entry)) amount) (of-held r) (now (self .exit)) ⌝ }
+        ensures { Did T.Tally.kind (R.Rule.meaning rule.now) self.old (reversing key.now amount) (of_held result) self.new }
     {
         if key.len() > LONGEST {
             return Err(Refusal::LongKey);

@@ -1,13 +1,12 @@
 // Posting.
-ghost use lib.ListN.{length};
-ghost use Rattle·std.specs.declared.result.Result.the-variants.{Err};
-ghost use Rattle·book.specs.Answers.{of-tally};
-ghost use Rattle·book.specs.Books.{post as posting};
-ghost use Rattle·table·specs.Tables.{Did, UnfitPost};
-ghost use Rattle·table·specs.Untouched.{number-of};
-ghost use Rattle·table·specs.Words.{PostUses};
-use super::LONGEST;
-use super::Table;
+ghost use Rattle.std.specs.Prelude.{length, Err};
+ghost use Rattle.book.specs.Answers.{of_tally};
+ghost use Rattle.book.specs.Books.{post as posting};
+ghost use Rattle.table.specs.Tables.{Did, UnfitPost};
+ghost use Rattle.table.specs.Untouched.{number_of};
+ghost use Rattle.table.specs.Words.{PostUses};
+
+use super::{LONGEST, Table};
 use moves::place::place;
 use rules::rule::Rule;
 use seats::refusal::Refusal;
@@ -23,9 +22,9 @@ impl<T: Tally + Copy> Table<'_, T> {
         amount: T,
         words: &mut [u32],
     ) -> Result<T, Refusal>
-        ensures did { λ r. ⌜ Did (T·Tally .kind) (R·Rule .meaning (now (rule .entry))) (now (self .entry)) (posting (now (key .entry)) amount (length (now (words .entry)))) (of-tally r) (now (self .exit)) ⌝ }
-        ensures words { λ r. ⌜ PostUses (T·Tally .kind) (now (self .entry)) (number-of (R·Rule .meaning (now (rule .entry))) (now (self .entry)) (now (key .entry))) (of-tally r) (now (words .entry)) (now (words .exit)) ⌝ }
-        ensures unfit { λ r. ⌜ UnfitPost (T·Tally .kind) (now (self .entry)) (number-of (R·Rule .meaning (now (rule .entry))) (now (self .entry)) (now (key .entry))) (now (key .entry)) amount (length (now (words .entry))) (of-tally r) ⌝ }
+        ensures did { Did T.Tally.kind (R.Rule.meaning rule.now) self.old (posting key.now amount (length words.old)) (of_tally result) self.new }
+        ensures words { PostUses T.Tally.kind self.old (number_of (R.Rule.meaning rule.now) self.old key.now) (of_tally result) words.old words.new }
+        ensures unfit { UnfitPost T.Tally.kind self.old (number_of (R.Rule.meaning rule.now) self.old key.now) key.now amount (length words.old) (of_tally result) }
     {
         if words.len() < 2 * self.shape.buckets as usize {
             return Err(Refusal::Words);

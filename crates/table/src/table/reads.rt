@@ -1,15 +1,12 @@
 // What a table holds of a fingerprint.
-ghost use mathlib.Core.Path.{_≡_};
-ghost use Prim.Native.Nat.{ℕ, _<_};
-ghost use lib.ListN.{length};
-ghost use Rattle·std.specs.Options.{Cases};
-ghost use Rattle·seats.specs.Shapes.{size};
-ghost use Rattle·seats.specs.Seats.{at, Sits};
-ghost use Rattle·book.specs.Answers.{of-held};
-ghost use Rattle·book.specs.Books.{look-up as looking};
-ghost use Rattle·table·specs.Tables.{Did};
-use super::LONGEST;
-use super::Table;
+ghost use Rattle.std.specs.Prelude.{◌≡◌, ℕ, ◌<◌, length, MatchOption};
+ghost use Rattle.seats.specs.Shapes.{size};
+ghost use Rattle.seats.specs.Seats.{at, Sits};
+ghost use Rattle.book.specs.Answers.{of_held};
+ghost use Rattle.book.specs.Books.{look_up as looking};
+ghost use Rattle.table.specs.Tables.{Did};
+
+use super::{LONGEST, Table};
 use rules::rule::Rule;
 use seats::find::find;
 use seats::refusal::Refusal;
@@ -19,32 +16,32 @@ use tallies::tally::Tally;
 impl<T: Tally + Copy> Table<'_, T> {
     // The fingerprint of a key.
     pub(crate) fn fingerprint<R: Rule>(&self, rule: &R, key: &[u8]) -> u32
-        ensures value { λ r. ⌜ r ≡ R·Rule .meaning (now (rule .entry)) (now (key .entry)) (size (now (self .entry) .shape) .range) ⌝ }
-        ensures below { λ r. ⌜ r < size (now (self .entry) .shape) .range ⌝ }
+        ensures value { result ≡ R.Rule.meaning rule.now key.now (size self.now.shape).range }
+        ensures below { result < (size self.now.shape).range }
     {
         rule.fingerprint(key, self.shape.range())
     }
 
     // The seat that holds the fingerprint.
     pub(crate) fn seat_of(&self, fingerprint: u32) -> Option<usize>
-        ensures { λ r. ⌜ Cases r
-            ((i : ℕ) → Sits (T·Tally .kind .empty) (now (now (self .entry) .seats)) (size (now (self .entry) .shape)) fingerprint i → ⊥)
-            (λ i. Sits (T·Tally .kind .empty) (now (now (self .entry) .seats)) (size (now (self .entry) .shape)) fingerprint i) ⌝ }
+        ensures { MatchOption result
+            ((i : ℕ) → Sits T.Tally.kind.empty self.now.seats.now (size self.now.shape) fingerprint i → ⊥)
+            (λ i. Sits T.Tally.kind.empty self.now.seats.now (size self.now.shape) fingerprint i) }
     {
         find(self.seats, self.shape, fingerprint)
     }
 
     // The tally of the seat `i`.
     pub(crate) fn tally_of(&self, i: usize) -> T
-        requires { ⌜ i < length (now (now self .seats)) ⌝ }
-        ensures { λ r. ⌜ r ≡ at (T·Tally .kind .empty) (now (now (self .entry) .seats)) i .tally ⌝ }
+        requires { i < length self.now.seats.now }
+        ensures { result ≡ (at T.Tally.kind.empty self.now.seats.now i).tally }
     {
         tally_at(self.seats, i)
     }
 
     // The tally that is held for the key's fingerprint, or nothing.
     pub fn look_up<R: Rule>(&self, rule: &R, key: &[u8]) -> Result<Option<T>, Refusal>
-        ensures { λ r. ⌜ Did (T·Tally .kind) (R·Rule .meaning (now (rule .entry))) (now (self .entry)) (looking (now (key .entry))) (of-held r) (now (self .exit)) ⌝ }
+        ensures { Did T.Tally.kind (R.Rule.meaning rule.now) self.now (looking key.now) (of_held result) self.now }
     {
         if key.len() > LONGEST {
             return Err(Refusal::LongKey);

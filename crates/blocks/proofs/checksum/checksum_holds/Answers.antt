@@ -1,7 +1,7 @@
-use borrow.Author.Needs.{needs}
-use Rattle·blocks·specs.Blocks.{checksum-holds}
-use Rattle·blocks·proofs.checksum.checksum_holds.Needs as need
+use Rattle.std.proofs.Common.{rules}
+use Rattle.blocks.specs.Blocks.{checksum_holds}
+use Rattle.blocks.proofs.checksum.checksum_holds.Goals as goal
 
-pub returns : need.returns
-unfolding checksum-holds
-returns c = search needs
+pub returns : goal.returns
+unfolding checksum_holds
+returns c = search rules

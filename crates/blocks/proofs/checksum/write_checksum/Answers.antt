@@ -1,6 +1,6 @@
-use mathlib.Core.Path.{_∙_}
-use Rattle·blocks·proofs.Checksums.{written-checksum}
-use Rattle·blocks·proofs.checksum.write_checksum.Needs as need
+use Rattle.std.proofs.Common.{◌∙◌}
+use Rattle.blocks.proofs.Checksums.{written_checksum}
+use Rattle.blocks.proofs.checksum.write_checksum.Goals as goal
 
-pub returns : need.returns
-returns c = c .write-u64 .ensures ∙ written-checksum (c .args .block .now) (c .fnv1a-checksum .result) (c .pre) (c .fnv1a-checksum .ensures)
+pub returns : goal.returns
+returns c = c.write_u64.ensures ∙ written_checksum c.args.block.now c.fnv1a-checksum.result c.requires c.fnv1a-checksum.ensures

@@ -1,6 +1,6 @@
-use native.Mathlib.Omega.{arith}
-use Rattle·std.proofs.shelf.Decimals.{length-decimal-le}
-use Rattle·leaves_test·proofs.number_tests.decimal_among_dots.Needs as need
+use Rattle.std.proofs.Common.{arith}
+use Rattle.std.proofs.lemmas.Fmt.{length-decimal-le}
+use Rattle.leaves_test.proofs.number_tests.decimal_among_dots.Goals as goal
 
-pub write-decimal-next-requires : need.write-decimal-next-requires
-write-decimal-next-requires c κs = omega (arith, length-decimal-le 20 (c .args .n) (omega arith) (omega arith) (omega arith))
+pub write_decimal-next-requires : goal.write_decimal-next-requires
+write_decimal-next-requires c = omega (arith, length-decimal-le 20 c.args.n (omega arith) (omega arith) (omega arith))

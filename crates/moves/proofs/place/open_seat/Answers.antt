@@ -1,35 +1,33 @@
-use mathlib.Core.Path.{refl}
-use mathlib.Core.Logic.{inl, inr}
-use native.Mathlib.Omega.{arith}
-use Rattle·seats.specs.Shapes.{size}
-use Rattle·seats.proofs.Sitting.{shape-sound}
-use Rattle·moves·proofs.Refuting.{unseatable}
-use Rattle·moves·proofs.Placing.{ready-root, ready-first}
-use Rattle·moves·proofs.place.open_seat.Needs as need
+use Rattle.std.proofs.Common.{refl, inl, inr, arith}
+use Rattle.seats.specs.Shapes.{size}
+use Rattle.seats.proofs.Sitting.{shape_sound}
+use Rattle.moves.proofs.Refuting.{unseatable}
+use Rattle.moves.proofs.Placing.{ready_root, ready_first}
+use Rattle.moves.proofs.place.open_seat.Goals as goal
 
-pub returns-in-Some : need.returns-in-Some
-returns-in-Some g c = record { seat = ready-first (shape-sound (c .args .shape)) (c .pre .below) (c .in-Some .ensures tt); spared = inl refl }
+pub returns-in-Some : goal.returns-in-Some
+returns-in-Some g c = record { seat = ready_first (shape_sound c.args.shape) c.requires.below c.in-Some.ensures; spared = inl refl }
 
-pub returns-in-None : need.returns-in-None
+pub returns-in-None : goal.returns-in-None
 returns-in-None g c =
-    let (link, stuck) = c .in-None .ensures tt in
+    let (link, stuck) = c.in-None.ensures in
     record {
       seat = record {
-        same = refl {a = c .args .seats .now};
+        same = refl {a = c.args.seats.now};
         unseatable = λ below entries shows none.
-            unseatable (g .T·Tally .kind .empty) (shape-sound (c .args .shape)) (c .args .seats .now) entries shows (c .args .fingerprint) link below none stuck;
+            unseatable g.T.Tally.kind.empty (shape_sound c.args.shape) c.args.seats.now entries shows c.args.fingerprint link below none stuck;
       };
-      spared = inr (c .in-rest .ensures tt);
+      spared = inr c.in_default.ensures;
     }
 
-pub walk-back-requires : need.walk-back-requires
-walk-back-requires g c κs =
-    let (link, found) = c .in-Some-nearest-free .ensures tt in
-    record { sizes = (omega arith, omega arith); chain = (link, found .chain) }
+pub walk_back-requires : goal.walk_back-requires
+walk_back-requires g c =
+    let (link, found) = c.in-Some-nearest_free.ensures in
+    record { sizes = (omega arith, omega arith); chain = (link, found.chain) }
 
-pub returns-in-Some-nearest-free : need.returns-in-Some-nearest-free
-returns-in-Some-nearest-free g c =
-    let crowded = c .in-rest .ensures tt in
-    let (link, found) = c .in-Some-nearest-free .ensures tt in
-    let (bucket, at-root, opened) = c .walk-back .ensures link (found .chain) in
-    record { seat = ready-root (size (c .args .shape)) (c .args .fingerprint) link (found .roots) at-root opened crowded; spared = inr crowded }
+pub returns-in-Some-nearest_free : goal.returns-in-Some-nearest_free
+returns-in-Some-nearest_free g c =
+    let crowded = c.in_default.ensures in
+    let (link, found) = c.in-Some-nearest_free.ensures in
+    let (bucket, at-root, opened) = c.walk_back.ensures link found.chain in
+    record { seat = ready_root (size c.args.shape) c.args.fingerprint link found.roots at-root opened crowded; spared = inr crowded }

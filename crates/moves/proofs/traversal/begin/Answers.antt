@@ -1,11 +1,9 @@
-use mathlib.Core.Path.{ap}
-use mathlib.Core.Bool.{true}
-use native.Mathlib.Omega.{arith}
-use Rattle·seats.specs.declared.place.Place.{Place}
-use Rattle·seats.proofs.Sitting.{shape-sound, bucket-below}
-use Rattle·moves·proofs.traversal.begin.Needs as need
+use Rattle.std.proofs.Common.{true, ap, arith}
+use Rattle.seats.specs.declared.place.Place.{Place}
+use Rattle.seats.proofs.Sitting.{shape_sound, bucket_below}
+use Rattle.moves.proofs.traversal.begin.Goals as goal
 
-pub index-slots-quotient : need.index-slots-quotient
-index-slots-quotient c =
-    let is = ap (λ (p : Place). p .bucket) (c .place-quotient .ensures .value) in
-    omega (arith, bucket-below (shape-sound (c .args .shape)) (c .args .fingerprint) (c .pre .below) true)
+pub bounds-slots-quotient : goal.bounds-slots-quotient
+bounds-slots-quotient c =
+    let is = ap (λ (p : Place). p.bucket) c.place-quotient.ensures.value in
+    omega (arith, bucket_below (shape_sound c.args.shape) c.args.fingerprint c.requires.below true)

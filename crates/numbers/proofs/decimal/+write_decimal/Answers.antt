@@ -1,30 +1,29 @@
-use native.Mathlib.Omega.{arith}
-use borrow.Author.Needs.{needs}
-use Rattle·numbers·proofs.Digits.{one-digit, one-digit-put, one-digit-more, last-digit-put}
-use Rattle·numbers·proofs.decimal.+write_decimal.Needs as need
+use Rattle.std.proofs.Common.{arith, rules}
+use Rattle.numbers.proofs.Digits.{one_digit, one_digit_put, one_digit_more, last_digit_put}
+use Rattle.numbers.proofs.decimal.+write_decimal.Goals as goal
 
-pub index-buffer-offset : need.index-buffer-offset
-index-buffer-offset t c = omega (arith, one-digit (c .args .n) (c .if-n-lt10 .taken))
+pub bounds-buffer-offset : goal.bounds-buffer-offset
+bounds-buffer-offset t c = omega (arith, one_digit c.args.n c.if-n-lt10.true)
 
-pub returns-then-n-lt10 : need.returns-then-n-lt10
+pub returns-then-n-lt10 : goal.returns-then-n-lt10
 returns-then-n-lt10 t c =
-    let one = one-digit (c .args .n) (c .if-n-lt10 .taken) in
-    record { next = omega arith; after = one-digit-put (c .args .buffer .now) (c .args .offset) (c .args .n) (c .if-n-lt10 .taken) (omega arith) }
+    let one = one_digit c.args.n c.if-n-lt10.true in
+    record { next = omega arith; after = one_digit_put c.args.buffer.now c.args.offset c.args.n c.if-n-lt10.true (omega arith) }
 
-pub write-decimal-last-requires : need.write-decimal-last-requires
-write-decimal-last-requires t c κs = let more = one-digit-more (c .args .n) (c .if-n-lt10 .left) (omega arith) in (search needs, omega arith)
+pub write_decimal-last-requires : goal.write_decimal-last-requires
+write_decimal-last-requires t c = let more = one_digit_more c.args.n c.if-n-lt10.false (omega arith) in (search rules, omega arith)
 
-pub index-buffer-last : need.index-buffer-last
-index-buffer-last t c = let more = one-digit-more (c .args .n) (c .if-n-lt10 .left) (omega arith) in omega arith
+pub bounds-buffer-last : goal.bounds-buffer-last
+bounds-buffer-last t c = let more = one_digit_more c.args.n c.if-n-lt10.false (omega arith) in omega arith
 
-pub add-result-2 : need.add-result-2
-add-result-2 t c = let more = one-digit-more (c .args .n) (c .if-n-lt10 .left) (omega arith) in omega arith
+pub overflow_add-result-2 : goal.overflow_add-result-2
+overflow_add-result-2 t c = let more = one_digit_more c.args.n c.if-n-lt10.false (omega arith) in omega arith
 
-pub returns : need.returns
+pub returns : goal.returns
 returns t c =
-    let more = one-digit-more (c .args .n) (c .if-n-lt10 .left) (omega arith) in
-    let written = c .write-decimal-last .ensures in
+    let more = one_digit_more c.args.n c.if-n-lt10.false (omega arith) in
+    let written = c.write_decimal-last.ensures in
     record {
       next = omega arith;
-      after = last-digit-put (c .args .buffer .now) _ (c .args .offset) (c .write-decimal-last .result) (c .args .n) (c .if-n-lt10 .left) (omega arith) (c .pre) (written .next) (written .after);
+      after = last_digit_put c.args.buffer.now _ c.args.offset c.write_decimal-last.result c.args.n c.if-n-lt10.false (omega arith) c.requires written.next written.after;
     }

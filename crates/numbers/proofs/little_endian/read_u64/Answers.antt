@@ -1,6 +1,6 @@
-use native.Mathlib.Omega.{arith}
-use Rattle·numbers·proofs.Widths.{number-by-bytes}
-use Rattle·numbers·proofs.little_endian.read_u64.Needs as need
+use Rattle.std.proofs.Common.{arith}
+use Rattle.numbers.proofs.Widths.{number_by_bytes}
+use Rattle.numbers.proofs.little_endian.read_u64.Goals as goal
 
-pub returns : need.returns
-returns c = omega (arith, number-by-bytes (c .args .bytes .now) (c .args .offset) 7 (c .pre))
+pub returns : goal.returns
+returns c = omega (arith, number_by_bytes c.args.bytes.now c.args.offset 7 c.requires)

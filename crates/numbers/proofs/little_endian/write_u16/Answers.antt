@@ -1,6 +1,6 @@
-use borrow.Author.Needs.{needs}
-use Rattle·numbers·proofs.Puts.{put-part}
-use Rattle·numbers·proofs.little_endian.write_u16.Needs as need
+use Rattle.std.proofs.Common.{rules}
+use Rattle.numbers.proofs.Puts.{put_part}
+use Rattle.numbers.proofs.little_endian.write_u16.Goals as goal
 
-pub returns : need.returns
-returns c = search (needs, put-part)
+pub returns : goal.returns
+returns c = search (rules, put_part)

@@ -1,7 +1,7 @@
-use borrow.Author.Needs.{needs}
-use Rattle·numbers·proofs.Puts.{put-part}
-use Rattle·numbers·proofs.Widths.{four-bytes}
-use Rattle·numbers·proofs.little_endian.write_u32.Needs as need
+use Rattle.std.proofs.Common.{rules}
+use Rattle.numbers.proofs.Puts.{put_part}
+use Rattle.numbers.proofs.Widths.{four_bytes}
+use Rattle.numbers.proofs.little_endian.write_u32.Goals as goal
 
-pub returns : need.returns
-returns c = search (needs, put-part, four-bytes)
+pub returns : goal.returns
+returns c = search (rules, put_part, four_bytes)

@@ -1,32 +1,31 @@
-use mathlib.Core.Path.{sym}
-use borrow.Author.Needs.{needs}
-use Rattle·std.proofs.shelf.Results.{err-from-errBy}
-use Rattle·paper·specs.Checks.{block-checked}
-use Rattle·paper·proofs.Fronts.{front-tells}
-use Rattle·paper·proofs.block.check_block.Needs as need
+use Rattle.std.proofs.Common.{sym, rules}
+use Rattle.std.proofs.lemmas.Result.{err_from_is_err_and}
+use Rattle.paper.specs.Checks.{block_checked}
+use Rattle.paper.proofs.Fronts.{front_tells}
+use Rattle.paper.proofs.block.check_block.Goals as goal
 
-pub returns-then-not-checksum-holds : need.returns-then-not-checksum-holds
-unfolding block-checked
-returns-then-not-checksum-holds c = search needs
+pub returns-then-not-checksum_holds : goal.returns-then-not-checksum_holds
+unfolding block_checked
+returns-then-not-checksum_holds c = search rules
 
-pub returns-then-not-front-fits : need.returns-then-not-front-fits
-unfolding block-checked
-returns-then-not-front-fits c = search needs
+pub returns-then-not-front_fits : goal.returns-then-not-front_fits
+unfolding block_checked
+returns-then-not-front_fits c = search rules
 
-pub check-records-requires : need.check-records-requires
-check-records-requires c κs = (c .pre, front-tells (c .args .first) (c .args .place) (c .args .last) (c .args .block .now) (sym (c .if-not-front-fits .ensures tt)) .few)
+pub check_records-requires : goal.check_records-requires
+check_records-requires c = (c.requires, (front_tells c.args.first c.args.place c.args.last c.args.block.now (sym c.if-not-front_fits.ensures)).few)
 
-pub returns-in-Break-check-records : need.returns-in-Break-check-records
-unfolding block-checked
-returns-in-Break-check-records c = let p = err-from-errBy (c .from-residual .result) (c .from-residual .ensures .1) in rw (p .1, p .2) (search needs)
+pub returns-in_err-check_records : goal.returns-in_err-check_records
+unfolding block_checked
+returns-in_err-check_records c = let p = err_from_is_err_and c.from_residual.result c.from_residual.ensures.1 in rw (p.1, p.2) (search rules)
 
-pub check-zeros-requires : need.check-zeros-requires
-check-zeros-requires c κs = (c .pre, front-tells (c .args .first) (c .args .place) (c .args .last) (c .args .block .now) (sym (c .if-not-front-fits .ensures tt)) .few)
+pub check_zeros-requires : goal.check_zeros-requires
+check_zeros-requires c = (c.requires, (front_tells c.args.first c.args.place c.args.last c.args.block.now (sym c.if-not-front_fits.ensures)).few)
 
-pub returns-in-Break-check-zeros : need.returns-in-Break-check-zeros
-unfolding block-checked
-returns-in-Break-check-zeros c = let p = err-from-errBy (c .from-residual-in-Break-check-zeros .result) (c .from-residual-in-Break-check-zeros .ensures .1) in rw (p .1, p .2) (search needs)
+pub returns-in_err-check_zeros : goal.returns-in_err-check_zeros
+unfolding block_checked
+returns-in_err-check_zeros c = let p = err_from_is_err_and c.from_residual-in_err-check_zeros.result c.from_residual-in_err-check_zeros.ensures.1 in rw (p.1, p.2) (search rules)
 
-pub returns : need.returns
-unfolding block-checked
-returns c = search needs
+pub returns : goal.returns
+unfolding block_checked
+returns c = search rules

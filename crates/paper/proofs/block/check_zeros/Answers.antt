@@ -1,13 +1,12 @@
-use Prim.Native.Nat.{_+_, _*_, _<_}
-use native.Mathlib.Omega.{arith}
-use Rattle·paper·proofs.Nonzeros.{nonzero-within}
-use Rattle·paper·proofs.block.check_zeros.Needs as need
+use Rattle.std.proofs.Common.{◌+◌, ◌*◌, ◌<◌, arith}
+use Rattle.paper.proofs.Nonzeros.{nonzero_within}
+use Rattle.paper.proofs.block.check_zeros.Goals as goal
 
-within : (c : need.In-Some) → 8 + 26 * c .from .result + c .in-Some .k < 504
-within c = nonzero-within (c .args .block .now) (8 + 26 * c .from .result) 504 (c .in-Some .k) (c .in-Some .ensures tt)
+within : (c : goal.In-Some) → 8 + 26 * c.from.result + c.in-Some.k < 504
+within c = nonzero_within c.args.block.now (8 + 26 * c.from.result) 504 c.in-Some.k c.in-Some.ensures
 
-pub add-from-in-Some : need.add-from-in-Some
-add-from-in-Some c = let h = within c in omega arith
+pub overflow_add-from-in-Some : goal.overflow_add-from-in-Some
+overflow_add-from-in-Some c = let h = within c in omega arith
 
-pub record-at-requires : need.record-at-requires
-record-at-requires c κs = within c
+pub record_at-requires : goal.record_at-requires
+record_at-requires c = within c

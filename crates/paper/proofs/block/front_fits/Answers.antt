@@ -1,11 +1,11 @@
-use borrow.Author.Needs.{needs}
-use Rattle·paper·specs.Checks.{front-fits}
-use Rattle·paper·proofs.block.front_fits.Needs as need
+use Rattle.std.proofs.Common.{rules}
+use Rattle.paper.specs.Checks.{front_fits}
+use Rattle.paper.proofs.block.front_fits.Goals as goal
 
-pub returns-then-count-fits : need.returns-then-count-fits
-unfolding front-fits
-returns-then-count-fits c = search needs
+pub returns-then-count_fits : goal.returns-then-count_fits
+unfolding front_fits
+returns-then-count_fits c = search rules
 
-pub returns-else-count-fits : need.returns-else-count-fits
-unfolding front-fits
-returns-else-count-fits c = search needs
+pub returns-else-count_fits : goal.returns-else-count_fits
+unfolding front_fits
+returns-else-count_fits c = search rules

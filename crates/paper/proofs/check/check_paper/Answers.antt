@@ -1,50 +1,45 @@
-use mathlib.Core.Path.{_≡_, ap, sym, _∙_}
-use mathlib.Core.List.{List}
-use Prim.Native.Nat.{ℕ}
-use native.Mathlib.Omega.{arith}
-use Rattle·std.specs.declared.result.Result.{Result}
-use Rattle·std.specs.declared.result.Result.the-variants.{Err}
-use Rattle·std.proofs.shelf.Ways.{tells}
-use Rattle·std.proofs.shelf.Results.{err-from-errBy}
-use Rattle·numbers.proofs.Bytes.{Bytes}
-use Rattle·paper·specs.Checks.{paper-checked}
-use Rattle·paper·specs.Writing.{Written-back}
-use Rattle·paper·specs.declared.header.Header.{Header}
-use Rattle·paper·specs.declared.fault.PaperFault.{PaperFault}
-use Rattle·paper·specs.declared.fault.PaperFault.the-variants.{Length}
-use Rattle·paper·proofs.PapersBack.{paper-back}
-use Rattle·paper·proofs.Steps.{blocks-step, blocks-none, blocks-all, paper-blocks}
-use Rattle·paper·proofs.check.check_paper.Needs as need
+use Rattle.std.proofs.Common.{◌≡◌, ℕ, List, Err, Result, sym, ap, ◌∙◌, arith}
+use Rattle.std.proofs.lemmas.Bool.Decides.{nat_tests}
+use Rattle.std.proofs.lemmas.Result.{err_from_is_err_and}
+use Rattle.numbers.proofs.Bytes.{Bytes}
+use Rattle.paper.specs.Checks.{paper_checked}
+use Rattle.paper.specs.Writing.{WritesBack}
+use Rattle.paper.specs.declared.header.Header.{Header}
+use Rattle.paper.specs.declared.fault.PaperFault.{PaperFault}
+use Rattle.paper.specs.declared.fault.PaperFault.TheVariants.{Length}
+use Rattle.paper.proofs.PapersBack.{paper_back}
+use Rattle.paper.proofs.Steps.{blocks_step, blocks_none, blocks_all, paper_blocks}
+use Rattle.paper.proofs.check.check_paper.Goals as goal
 
-answers : (paper : List ℕ) (r : Result Header PaperFault) → Bytes paper → r ≡ paper-checked paper → (r ≡ paper-checked paper) × Written-back paper r
-answers paper r each is = (is, λ h ok. paper-back paper h each (sym is ∙ ok))
+answers : (paper : List ℕ) (r : Result Header PaperFault) → Bytes paper → r ≡ paper_checked paper → (r ≡ paper_checked paper) × WritesBack paper r
+answers paper r each is = (is, λ h ok. paper_back paper h each (sym is ∙ ok))
 
-pub returns-in-rest : need.returns-in-rest
-unfolding paper-checked
-returns-in-rest c =
-    let a = answers (c .args .paper .now) (Err Length) (λ i. c .typed .paper i .fits) (grind (arith, tells)) in
-    record { answer = a .0; written-back = a .1 }
+pub returns-in_default : goal.returns-in_default
+unfolding paper_checked
+returns-in_default c =
+    let a = answers c.args.paper.now (Err Length) (λ i. (c.type_inv.paper i).fits) (grind (arith, nat_tests)) in
+    record { answer = a.0; written_back = a.1 }
 
-pub loop-i-holds : need.loop-i-holds
-loop-i-holds c = blocks-all _ (c .args .paper .now) _
+pub loop-i-init : goal.loop-i-init
+loop-i-init c = blocks_all _ c.args.paper.now _
 
-pub loop-i-again : need.loop-i-again
-loop-i-again c = sym (blocks-step _ _ _ _ _ (c .loop-i-test .taken) (sym (c .in-Continue-check-block .ensures tt))) ∙ c .loop-i .inv
+pub loop-i-preserved : goal.loop-i-preserved
+loop-i-preserved c = sym (blocks_step _ _ _ _ _ c.loop-i-test.true (sym c.in_ok-check_block.ensures)) ∙ c.loop-i.invariant
 
-pub returns-in-Break-check-block : need.returns-in-Break-check-block
-returns-in-Break-check-block c =
-    let p = err-from-errBy (c .from-residual .result) (c .from-residual .ensures .1) in
+pub returns-in_err-check_block : goal.returns-in_err-check_block
+returns-in_err-check_block c =
+    let p = err_from_is_err_and c.from_residual.result c.from_residual.ensures.1 in
     let a =
-    answers (c .args .paper .now) (c .from-residual .result) (λ i. c .typed .paper i .fits)
-    (p .1 ∙ ap Err (p .2)
-    ∙ sym (blocks-step _ _ _ _ _ (c .loop-i-test .taken) (sym (c .in-Break-check-block .ensures tt)))
-    ∙ c .loop-i .inv ∙ paper-blocks _ _ _ (c .in-Some .ensures tt) (c .read-header .ensures)) in
-    record { answer = a .0; written-back = a .1 }
+    answers c.args.paper.now c.from_residual.result (λ i. (c.type_inv.paper i).fits)
+    (p.1 ∙ ap Err p.2
+    ∙ sym (blocks_step _ _ _ _ _ c.loop-i-test.true (sym c.in_err-check_block.ensures))
+    ∙ c.loop-i.invariant ∙ paper_blocks _ _ _ c.in-Some.ensures c.read-header.ensures) in
+    record { answer = a.0; written_back = a.1 }
 
-pub returns : need.returns
+pub returns : goal.returns
 returns c =
     let a =
-    answers (c .args .paper .now) _ (λ i. c .typed .paper i .fits)
-    (sym (blocks-none _ (c .args .paper .now) _ _ (c .loop-i-test .left))
-    ∙ c .loop-i .inv ∙ paper-blocks _ _ _ (c .in-Some .ensures tt) (c .read-header .ensures)) in
-    record { answer = a .0; written-back = a .1 }
+    answers c.args.paper.now _ (λ i. (c.type_inv.paper i).fits)
+    (sym (blocks_none _ c.args.paper.now _ _ c.loop-i-test.false)
+    ∙ c.loop-i.invariant ∙ paper_blocks _ _ _ c.in-Some.ensures c.read-header.ensures) in
+    record { answer = a.0; written_back = a.1 }

@@ -1,12 +1,12 @@
-use borrow.Author.Needs.{needs}
-use Rattle·paper·proofs.Nonzeros.{nonzero-more, nonzero-stops, nonzero-none}
-use Rattle·paper·proofs.zeros.first_nonzero.Needs as need
+use Rattle.std.proofs.Common.{rules}
+use Rattle.paper.proofs.Nonzeros.{nonzero_more, nonzero_stops, nonzero_none}
+use Rattle.paper.proofs.zeros.first_nonzero.Goals as goal
 
-pub returns-then-byte-ne0 : need.returns-then-byte-ne0
-returns-then-byte-ne0 c = search (needs, nonzero-stops)
+pub returns-then-byte-ne0 : goal.returns-then-byte-ne0
+returns-then-byte-ne0 c = search (rules, nonzero_stops)
 
-pub loop-i-again : need.loop-i-again
-loop-i-again c = search (needs, nonzero-more)
+pub loop-i-preserved : goal.loop-i-preserved
+loop-i-preserved c = search (rules, nonzero_more)
 
-pub returns : need.returns
-returns c = search (needs, nonzero-none)
+pub returns : goal.returns
+returns c = search (rules, nonzero_none)

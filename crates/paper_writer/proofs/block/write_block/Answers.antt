@@ -1,26 +1,22 @@
-use mathlib.Core.Path.{refl, ap, sym, _∙_}
-use mathlib.Core.List.{append-nil}
-use Prim.Native.Nat.{_-_}
-use native.Mathlib.Omega.{arith}
-use borrow.Author.Needs.{needs}
-use Rattle·std.proofs.shelf.Lists.{take-at}
-use Rattle·paper.specs.Writing.{block-bytes}
-use Rattle·blocks.specs.Blocks.{with-checksum}
-use Rattle·paper_writer·proofs.Fills.{record-next, body-filled}
-use Rattle·paper_writer·proofs.block.write_block.Needs as need
+use Rattle.std.proofs.Common.{◌-◌, sym, refl, ap, ◌∙◌, append-nil, arith, rules}
+use Rattle.std.proofs.lemmas.List.{take_at}
+use Rattle.paper.specs.Writing.{block_bytes}
+use Rattle.blocks.specs.Blocks.{with_checksum}
+use Rattle.paper_writer.proofs.Fills.{record_next, body_filled}
+use Rattle.paper_writer.proofs.block.write_block.Goals as goal
 
-pub loop-i-holds : need.loop-i-holds
-loop-i-holds c = sym (append-nil _)
+pub loop-i-init : goal.loop-i-init
+loop-i-init c = sym (append-nil _)
 
-pub loop-i-again : need.loop-i-again
-loop-i-again c =
-    record-next _ (c .args .records .now) (c .loop-i .block) _ (c .write-record .last .part) (c .loop-i .i) _ _ (c .loop-i-test .taken) (c .loop-i .inv) refl (c .write-record .ensures) (omega arith) (omega arith)
+pub loop-i-preserved : goal.loop-i-preserved
+loop-i-preserved c =
+    record_next _ c.args.records.now c.loop-i.block _ c.write_record.new.part c.loop-i.i _ _ c.loop-i-test.true c.loop-i.invariant refl c.write_record.ensures (omega arith) (omega arith)
 
-pub returns : need.returns
-unfolding block-bytes
+pub returns : goal.returns
+unfolding block_bytes
 returns c =
-    c .write-checksum .ensures
-    ∙ ap with-checksum
-    (body-filled (c .args .header) (c .args .place) _ (c .args .records .now) (c .loop-i .block) _ (c .fill .last .self) (c .loop-i .i) _
-    (take-at (c .write-front .last .part) _ 8 (omega arith) ∙ c .write-front .ensures)
-    (c .loop-i-test .left) (omega arith) (c .pre .1) (c .loop-i .inv) (omega arith) refl (search needs))
+    c.write_checksum.ensures
+    ∙ ap with_checksum
+    (body_filled c.args.header c.args.place _ c.args.records.now c.loop-i.block _ c.fill.new.self c.loop-i.i _
+    (take_at c.write_front.new.part _ 8 (omega arith) ∙ c.write_front.ensures)
+    c.loop-i-test.false (omega arith) c.requires.1 c.loop-i.invariant (omega arith) refl (search rules))

@@ -1,8 +1,8 @@
-use mathlib.Core.Path.{refl}
-use Rattle·numbers.specs.LittleEndian.{bytes-of}
-use Rattle·paper_writer·proofs.Fills.{front-filled}
-use Rattle·paper_writer·proofs.block.write_front.Needs as need
+use Rattle.std.proofs.Common.{refl}
+use Rattle.numbers.specs.LittleEndian.{bytes_of}
+use Rattle.paper_writer.proofs.Fills.{front_filled}
+use Rattle.paper_writer.proofs.block.write_front.Goals as goal
 
-pub returns : need.returns
+pub returns : goal.returns
 returns c =
-    front-filled (c .args .part .now) (c .write-u16 .last .bytes) (c .copy-from-slice .last .self) (bytes-of 2 (c .args .header .buckets)) _ (c .pre) refl refl (c .write-u16 .ensures) (c .copy-from-slice .ensures .after)
+    front_filled c.args.part.now c.write_u16.new.bytes c.copy_from_slice.new.self (bytes_of 2 c.args.header.buckets) _ c.requires refl refl c.write_u16.ensures c.copy_from_slice.ensures.after

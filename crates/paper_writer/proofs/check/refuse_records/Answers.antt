@@ -1,28 +1,28 @@
-use mathlib.Core.Path.{sym, subst, _∙_}
-use Rattle·std.specs.shelf.Lists.{All}
-use Rattle·std.proofs.shelf.Elements.{all-more}
-use Rattle·std.proofs.shelf.Lists.{take-all}
-use Rattle·std.proofs.shelf.Tests.{false≢true}
-use Rattle·paper.specs.Records.{Within-types}
-use Rattle·paper_writer·proofs.Refusals.{records-step, records-none}
-use Rattle·paper_writer·proofs.check.refuse_records.Needs as need
+use Rattle.std.proofs.Common.{sym, ◌∙◌, subst}
+use Rattle.std.specs.List.{AllByRecursion}
+use Rattle.std.proofs.ByRecursion.{All-more}
+use Rattle.std.proofs.lemmas.List.{take_all}
+use Rattle.std.proofs.lemmas.Bool.{false≢true}
+use Rattle.paper.specs.Records.{WithinTypes}
+use Rattle.paper_writer.proofs.Refusals.{records_step, records_none}
+use Rattle.paper_writer.proofs.check.refuse_records.Goals as goal
 
-pub returns-then-not-fits : need.returns-then-not-fits
+pub returns-then-not-fits : goal.returns-then-not-fits
 returns-then-not-fits c =
     record {
-      answer = sym (records-step _ _ _ _ _ (c .loop-k-test .taken) (sym (c .if-not-fits .ensures tt .value))) ∙ c .loop-k .inv .0;
+      answer = sym (records_step _ _ _ _ _ c.loop-k-test.true (sym c.if-not-fits.ensures.value)) ∙ c.loop-k.invariant.0;
       within = λ is. absurd (false≢true is);
     }
 
-pub loop-k-again : need.loop-k-again
-loop-k-again c = (
-  sym (records-step _ _ _ _ _ (c .loop-k-test .taken) (sym (c .if-not-fits .ensures tt .value))) ∙ c .loop-k .inv .0,
-  all-more Within-types (c .args .records .now) (c .loop-k .k) _ (c .loop-k-test .taken) (c .loop-k .inv .1) (c .if-not-fits .ensures tt .within),
+pub loop-k-preserved : goal.loop-k-preserved
+loop-k-preserved c = (
+  sym (records_step _ _ _ _ _ c.loop-k-test.true (sym c.if-not-fits.ensures.value)) ∙ c.loop-k.invariant.0,
+  All-more WithinTypes c.args.records.now c.loop-k.k _ c.loop-k-test.true c.loop-k.invariant.1 c.if-not-fits.ensures.within,
 )
 
-pub returns : need.returns
+pub returns : goal.returns
 returns c =
     record {
-      answer = sym (records-none _ _ _ (c .loop-k-test .left)) ∙ c .loop-k .inv .0;
-      within = λ _. subst (All Within-types) (take-all (c .loop-k .k) (c .args .records .now) (c .loop-k-test .left)) (c .loop-k .inv .1);
+      answer = sym (records_none _ _ _ c.loop-k-test.false) ∙ c.loop-k.invariant.0;
+      within = λ _. subst (AllByRecursion WithinTypes) (take_all c.loop-k.k c.args.records.now c.loop-k-test.false) c.loop-k.invariant.1;
     }

@@ -1,14 +1,12 @@
-use mathlib.Core.Path.{ap, _∙_}
-use Prim.Native.Nat.{_^_, _<_}
-use native.Mathlib.Omega.{arith}
-use Rattle·table.specs.Requests.{asked}
-use Rattle·run·proofs.Calling.{called}
-use Rattle·run·proofs.call.call_line.Needs as need
+use Rattle.std.proofs.Common.{◌^◌, ◌<◌, ap, ◌∙◌, arith}
+use Rattle.table.specs.Requests.{asked}
+use Rattle.run.proofs.Calling.{called}
+use Rattle.run.proofs.call.call_line.Goals as goal
 
-pub returns : need.returns
+pub returns : goal.returns
 returns g c = λ b keeps.
-    let narrow : c .from-2 .result < 2 ^ 32 = omega arith in
-    called (g .T·Tally .kind) (g .R·Rule .meaning (c .args .rule .now)) (g .T·Figured .figuring) (c .args .table .now) (c .call-answer .last .self) b (c .args .record .now)
-    _ (c .call-answer .result) (c .figures-after-first .result) (c .args .place) (c .from .result) (c .from-2 .result) keeps
-    (ap (λ n. asked n (c .request-of-request .result)) (c .pre) ∙ c .request-of-request .ensures)
-    (c .call-answer .ensures .did) (c .figures-after-first .ensures _) (c .from .ensures ∙ c .number .ensures .value) (c .from-2 .ensures) narrow
+    let narrow : c.from-2.result < 2 ^ 32 = omega arith in
+    called g.T.Tally.kind (g.R.Rule.meaning c.args.rule.now) g.T.Figured.figuring c.args.table.now c.call-answer.new.self b c.args.record.now
+    _ c.call-answer.result c.figures_after-first.result c.args.place c.from.result c.from-2.result keeps
+    (ap (λ n. asked n c.request_of-request.result) c.requires ∙ c.request_of-request.ensures)
+    c.call-answer.ensures.did (c.figures_after-first.ensures _) (c.from.ensures ∙ c.number.ensures.value) c.from-2.ensures narrow

@@ -1,8 +1,8 @@
-use native.Mathlib.Omega.{arith}
-use Rattle·run·proofs.Papers.{shape-limits}
-use Rattle·run·proofs.table_of.shape_of.Needs as need
+use Rattle.std.proofs.Common.{arith}
+use Rattle.run.proofs.Papers.{shape_limits}
+use Rattle.run.proofs.table_of.shape_of.Goals as goal
 
-pub ghost-result : need.ghost-result
-ghost-result c =
-    let fit = shape-limits (c .args .header) (c .pre) in
-    ((omega arith, omega arith, omega arith, omega arith, omega arith), tt)
+pub invariant_of-result : goal.invariant_of-result
+invariant_of-result c =
+    let fit = shape_limits c.args.header c.requires in
+    record { ok = (omega arith, omega arith, omega arith, omega arith, omega arith) }

@@ -1,11 +1,11 @@
-use borrow.Author.Needs.{needs}
-use Rattle·run·specs.Printed.{all-lines}
-use Rattle·run·proofs.table_of.write_by_kind.Needs as need
+use Rattle.std.proofs.Common.{rules}
+use Rattle.run.specs.Printed.{all_lines}
+use Rattle.run.proofs.table_of.write_by_kind.Goals as goal
 
-pub returns-then-header-kind-number : need.returns-then-header-kind-number
-unfolding all-lines
-returns-then-header-kind-number c = search needs
+pub returns-then-header-kind_number : goal.returns-then-header-kind_number
+unfolding all_lines
+returns-then-header-kind_number c = search rules
 
-pub returns-else-header-kind-number : need.returns-else-header-kind-number
-unfolding all-lines
-returns-else-header-kind-number c = search needs
+pub returns-else-header-kind_number : goal.returns-else-header-kind_number
+unfolding all_lines
+returns-else-header-kind_number c = search rules

@@ -1,41 +1,39 @@
-use mathlib.Core.Path.{refl}
-use mathlib.Core.List.{[], _∷_}
-use native.Mathlib.Omega.{arith}
-use Rattle·seatings.specs.Seatings.{seatable}
-use Rattle·blocks.specs.Blocks.{checksum-holds, with-checksum}
-use Rattle·paper.specs.Checks.{paper-checked, block-checked, front-fits}
-use Rattle·paper.specs.Headers.{header-fits}
-use Rattle·paper.specs.Records.{record-fits}
-use Rattle·paper.specs.Writing.{block-bytes, paper-bytes}
-use Rattle·run·specs.Printed.{printed, all-lines, lines, call-line}
-use Rattle·run·proofs.Spelled.{row, row-spelled, rows-spelled, fault-spelled}
-use Rattle·run·proofs.worked.worked_papers_hold.Needs as need
+use Rattle.std.proofs.Common.{[], ◌∷◌, refl, arith}
+use Rattle.seatings.specs.Seatings.{seatable}
+use Rattle.blocks.specs.Blocks.{checksum_holds, with_checksum}
+use Rattle.paper.specs.Checks.{paper_checked, block_checked, front_fits}
+use Rattle.paper.specs.Headers.{header_fits}
+use Rattle.paper.specs.Records.{record_fits}
+use Rattle.paper.specs.Writing.{block_bytes, paper_bytes}
+use Rattle.run.specs.Printed.{printed, all_lines, lines, call_line}
+use Rattle.run.proofs.Spelled.{row, row_spelled, rows_spelled, fault_spelled}
+use Rattle.run.proofs.worked.worked_papers_hold.Goals as goal
 
-pub returns : need.returns
-unfolding printed all-lines lines call-line paper-checked block-checked front-fits checksum-holds with-checksum header-fits record-fits block-bytes paper-bytes seatable
+pub returns : goal.returns
+unfolding printed all_lines lines call_line paper_checked block_checked front_fits checksum_holds with_checksum header_fits record_fits block_bytes paper_bytes seatable
 returns c = record {
   codes = refl;
   calls = refl;
   lengths = refl;
   fit = refl;
   unfit = refl;
-  header-read = refl;
-  records-read = refl;
+  header_read = refl;
+  records_read = refl;
   written = refl;
-  cut = fault-spelled 13 0 0 (omega arith) (omega arith) (omega arith);
-  checksum-turned = fault-spelled 14 0 0 (omega arith) (omega arith) (omega arith);
-  one-bucket = fault-spelled 15 0 0 (omega arith) (omega arith) (omega arith);
-  third-rule = fault-spelled 15 0 0 (omega arith) (omega arith) (omega arith);
-  no-call = fault-spelled 16 0 1 (omega arith) (omega arith) (omega arith);
-  octet-of-replicas = fault-spelled 16 0 1 (omega arith) (omega arith) (omega arith);
-  widening-with-key = fault-spelled 16 0 4 (omega arith) (omega arith) (omega arith);
-  look-up-with-packet = fault-spelled 16 0 9 (omega arith) (omega arith) (omega arith);
-  behind-the-count = fault-spelled 16 0 10 (omega arith) (omega arith) (omega arith);
-  behind-the-records = fault-spelled 16 0 0 (omega arith) (omega arith) (omega arith);
-  in-second-block = fault-spelled 16 1 1 (omega arith) (omega arith) (omega arith);
-  sample-lines = rows-spelled (row 1 0 1 0 ∷ row 2 0 2 0 ∷ row 3 8 0 0 ∷ row 4 0 2 2 ∷ row 5 0 1 0 ∷ row 6 12 2 3 ∷ row 7 0 0 0 ∷ row 8 0 1 2 ∷ row 9 0 1 0 ∷ []) refl;
-  traffic-lines = rows-spelled (row 1 0 4294967295 1 ∷ row 2 0 4294967295 1000000000000000 ∷ row 3 7 4294967295 1000000000000000 ∷ row 4 0 0 0 ∷ row 5 9 0 0 ∷ []) refl;
-  quiet-lines = rows-spelled (row 1 11 1 0 ∷ row 2 0 2 0 ∷ row 3 11 2 0 ∷ row 4 6 0 0 ∷ row 5 9 0 0 ∷ row 6 6 0 0 ∷ row 7 9 0 0 ∷ row 8 0 0 0 ∷ []) refl;
-  large-figures = row-spelled (row 1900 0 4294967295 1000000000000000) refl;
-  longest = row-spelled (row 1900 12 4294967295 1000000000000000) refl;
+  cut = fault_spelled 13 0 0 (omega arith) (omega arith) (omega arith);
+  checksum_turned = fault_spelled 14 0 0 (omega arith) (omega arith) (omega arith);
+  one_bucket = fault_spelled 15 0 0 (omega arith) (omega arith) (omega arith);
+  third_rule = fault_spelled 15 0 0 (omega arith) (omega arith) (omega arith);
+  no_call = fault_spelled 16 0 1 (omega arith) (omega arith) (omega arith);
+  octet_of_replicas = fault_spelled 16 0 1 (omega arith) (omega arith) (omega arith);
+  widening_with_key = fault_spelled 16 0 4 (omega arith) (omega arith) (omega arith);
+  look_up_with_packet = fault_spelled 16 0 9 (omega arith) (omega arith) (omega arith);
+  behind_the_count = fault_spelled 16 0 10 (omega arith) (omega arith) (omega arith);
+  behind_the_records = fault_spelled 16 0 0 (omega arith) (omega arith) (omega arith);
+  in_second_block = fault_spelled 16 1 1 (omega arith) (omega arith) (omega arith);
+  sample_lines = rows_spelled (row 1 0 1 0 ∷ row 2 0 2 0 ∷ row 3 8 0 0 ∷ row 4 0 2 2 ∷ row 5 0 1 0 ∷ row 6 12 2 3 ∷ row 7 0 0 0 ∷ row 8 0 1 2 ∷ row 9 0 1 0 ∷ []) refl;
+  traffic_lines = rows_spelled (row 1 0 4294967295 1 ∷ row 2 0 4294967295 1000000000000000 ∷ row 3 7 4294967295 1000000000000000 ∷ row 4 0 0 0 ∷ row 5 9 0 0 ∷ []) refl;
+  quiet_lines = rows_spelled (row 1 11 1 0 ∷ row 2 0 2 0 ∷ row 3 11 2 0 ∷ row 4 6 0 0 ∷ row 5 9 0 0 ∷ row 6 6 0 0 ∷ row 7 9 0 0 ∷ row 8 0 0 0 ∷ []) refl;
+  large_figures = row_spelled (row 1900 0 4294967295 1000000000000000) refl;
+  longest = row_spelled (row 1900 12 4294967295 1000000000000000) refl;
 }

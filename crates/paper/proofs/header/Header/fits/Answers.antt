@@ -1,11 +1,11 @@
-use borrow.Author.Needs.{needs}
-use Rattle·paper·specs.Headers.{header-fits}
-use Rattle·paper·proofs.header.Header.fits.Needs as need
+use Rattle.std.proofs.Common.{rules}
+use Rattle.paper.specs.Headers.{header_fits}
+use Rattle.paper.proofs.header.Header.fits.Goals as goal
 
-pub returns-then-is-rule : need.returns-then-is-rule
-unfolding header-fits
-returns-then-is-rule c = search needs
+pub returns-then-is_rule : goal.returns-then-is_rule
+unfolding header_fits
+returns-then-is_rule c = search rules
 
-pub returns-else-is-rule : need.returns-else-is-rule
-unfolding header-fits
-returns-else-is-rule c = search needs
+pub returns-else-is_rule : goal.returns-else-is_rule
+unfolding header_fits
+returns-else-is_rule c = search rules

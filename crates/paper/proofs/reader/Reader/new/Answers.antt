@@ -1,11 +1,10 @@
-use mathlib.Core.Path.{sym}
-use native.Mathlib.Omega.{arith}
-use Rattle·paper·proofs.Sound.{sound-counted}
-use Rattle·paper·proofs.ToCome.{come-block}
-use Rattle·paper·proofs.reader.Reader.new.Needs as need
+use Rattle.std.proofs.Common.{sym, arith}
+use Rattle.paper.proofs.Sound.{sound_counted}
+use Rattle.paper.proofs.ToCome.{come_block}
+use Rattle.paper.proofs.reader.Reader.new.Goals as goal
 
-pub ghost-result : need.ghost-result
-ghost-result c = (c .pre, (omega arith, ((λ inside. sound-counted (c .args .paper .now) 0 (c .pre) .some inside), tt)))
+pub invariant_of-result : goal.invariant_of-result
+invariant_of-result c = record { sound = c.requires; inside = omega arith; within = λ inside. (sound_counted c.args.paper.now 0 c.requires).some inside }
 
-pub returns : need.returns
-returns c = sym (come-block (c .args .paper .now) 0)
+pub returns : goal.returns
+returns c = sym (come_block c.args.paper.now 0)

@@ -1,11 +1,11 @@
-use borrow.Author.Needs.{needs}
-use Rattle·paper·specs.Records.{record-fits}
-use Rattle·paper·proofs.record.Record.fits.Needs as need
+use Rattle.std.proofs.Common.{rules}
+use Rattle.paper.specs.Records.{record_fits}
+use Rattle.paper.proofs.record.Record.fits.Goals as goal
 
-pub returns-then-key-fits : need.returns-then-key-fits
-unfolding record-fits
-returns-then-key-fits c = search needs
+pub returns-then-key_fits : goal.returns-then-key_fits
+unfolding record_fits
+returns-then-key_fits c = search rules
 
-pub returns-else-key-fits : need.returns-else-key-fits
-unfolding record-fits
-returns-else-key-fits c = search needs
+pub returns-else-key_fits : goal.returns-else-key_fits
+unfolding record_fits
+returns-else-key_fits c = search rules

@@ -1,42 +1,41 @@
-use mathlib.Core.Path.{refl, sym}
-use lib.ListN.{length}
-use Rattle·std.proofs.shelf.Tests.{le-ltb}
-use Rattle·table·proofs.Reading.{reads-none, reads-some, sits-inside}
-use Rattle·table·proofs.Reversing.{reversed-none, reversed-short, reversed-all, reversed-part}
-use Rattle·table·proofs.table.Table.reverse.Needs as need
+use Rattle.std.proofs.Common.{length, sym, refl}
+use Rattle.std.proofs.lemmas.Bool.{le-ltb}
+use Rattle.table.proofs.Reading.{reads_none, reads_some, sits_inside}
+use Rattle.table.proofs.Reversing.{reversed_none, reversed_short, reversed_all, reversed_part}
+use Rattle.table.proofs.table.Table.reverse.Goals as goal
 
-pub tally-of-requires : need.tally-of-requires
-tally-of-requires g c κs = sits-inside (g .T·Tally .kind) (c .args .self .now) (c .fingerprint .result) (c .in-Some .i) (c .in-Some .ensures tt)
+pub tally_of-requires : goal.tally_of-requires
+tally_of-requires g c = sits_inside g.T.Tally.kind c.args.self.now c.fingerprint.result c.in-Some.i c.in-Some.ensures
 
-pub vacate-tally-requires : need.vacate-tally-requires
-vacate-tally-requires g c κs = sits-inside (g .T·Tally .kind) (c .args .self .now) (c .fingerprint .result) (c .in-Some .i) (c .in-Some .ensures tt)
+pub vacate-tally-requires : goal.vacate-tally-requires
+vacate-tally-requires g c = sits_inside g.T.Tally.kind c.args.self.now c.fingerprint.result c.in-Some.i c.in-Some.ensures
 
-pub retally-requires : need.retally-requires
-retally-requires g c κs = sits-inside (g .T·Tally .kind) (c .args .self .now) (c .fingerprint .result) (c .in-Some .i) (c .in-Some .ensures tt)
+pub retally-requires : goal.retally-requires
+retally-requires g c = sits_inside g.T.Tally.kind c.args.self.now c.fingerprint.result c.in-Some.i c.in-Some.ensures
 
-pub returns-then-is-empty : need.returns-then-is-empty
-returns-then-is-empty g c =
-    reversed-all (g .T·Tally .kind) (g .R·Rule .meaning (c .args .rule .now)) (c .args .self .now) (c .args .key .now) (c .fingerprint .result)
-    (le-ltb 64 (length (c .args .key .now)) (c .if-key-gt-LONGEST .left)) (c .fingerprint .ensures .value) (c .args .amount) (sym (c .if-not-is-amount .ensures tt .value))
-    _ (c .in-Some .i) (c .tally-of .result) (c .in-Some-take-back .rest) (c .in-Some .ensures tt) (c .tally-of .ensures) (sym (c .in-Some-take-back .ensures tt .value)) refl refl
-    (sym (c .if-is-empty .ensures tt .value)) (c .vacate-tally .ensures .after) (c .saturating-sub-self .ensures)
+pub returns-then-is_empty : goal.returns-then-is_empty
+returns-then-is_empty g c =
+    reversed_all g.T.Tally.kind (g.R.Rule.meaning c.args.rule.now) c.args.self.now c.args.key.now c.fingerprint.result
+    (le-ltb 64 (length c.args.key.now) c.if-key-gt-LONGEST.false) c.fingerprint.ensures.value c.args.amount (sym c.if-not-is_amount.ensures.value)
+    _ c.in-Some.i c.tally_of.result c.in-Some-take_back.rest c.in-Some.ensures c.tally_of.ensures (sym c.in-Some-take_back.ensures.value) refl refl
+    (sym c.if-is_empty.ensures.value) c.vacate-tally.ensures.after c.saturating_sub-self.ensures
 
-pub returns-else-is-empty : need.returns-else-is-empty
-returns-else-is-empty g c =
-    reversed-part (g .T·Tally .kind) (g .R·Rule .meaning (c .args .rule .now)) (c .args .self .now) (c .args .key .now) (c .fingerprint .result)
-    (le-ltb 64 (length (c .args .key .now)) (c .if-key-gt-LONGEST .left)) (c .fingerprint .ensures .value) (c .args .amount) (sym (c .if-not-is-amount .ensures tt .value))
-    _ (c .in-Some .i) (c .tally-of .result) (c .in-Some-take-back .rest) (c .in-Some .ensures tt) (c .tally-of .ensures) (sym (c .in-Some-take-back .ensures tt .value)) refl refl
-    (g .T·Tally·met .lawful) (sym (c .if-is-empty .ensures tt .value)) (c .retally .ensures) refl
+pub returns-else-is_empty : goal.returns-else-is_empty
+returns-else-is_empty g c =
+    reversed_part g.T.Tally.kind (g.R.Rule.meaning c.args.rule.now) c.args.self.now c.args.key.now c.fingerprint.result
+    (le-ltb 64 (length c.args.key.now) c.if-key-gt-LONGEST.false) c.fingerprint.ensures.value c.args.amount (sym c.if-not-is_amount.ensures.value)
+    _ c.in-Some.i c.tally_of.result c.in-Some-take_back.rest c.in-Some.ensures c.tally_of.ensures (sym c.in-Some-take_back.ensures.value) refl refl
+    g.met.T.Tally.lawful (sym c.if-is_empty.ensures.value) c.retally.ensures refl
 
-pub returns-in-None-take-back : need.returns-in-None-take-back
-returns-in-None-take-back g c =
-    reversed-short (g .T·Tally .kind) (g .R·Rule .meaning (c .args .rule .now)) (c .args .self .now) (c .args .key .now) (c .fingerprint .result)
-    (le-ltb 64 (length (c .args .key .now)) (c .if-key-gt-LONGEST .left)) (c .fingerprint .ensures .value) (c .args .amount) (sym (c .if-not-is-amount .ensures tt .value))
-    (c .tally-of .result) (reads-some (g .T·Tally .kind) (c .args .self .now) (c .fingerprint .result) (c .in-Some .i) (c .tally-of .result) (c .in-Some .ensures tt) (c .tally-of .ensures))
-    (sym (c .in-None-take-back .ensures tt .value))
+pub returns-in-None-take_back : goal.returns-in-None-take_back
+returns-in-None-take_back g c =
+    reversed_short g.T.Tally.kind (g.R.Rule.meaning c.args.rule.now) c.args.self.now c.args.key.now c.fingerprint.result
+    (le-ltb 64 (length c.args.key.now) c.if-key-gt-LONGEST.false) c.fingerprint.ensures.value c.args.amount (sym c.if-not-is_amount.ensures.value)
+    c.tally_of.result (reads_some g.T.Tally.kind c.args.self.now c.fingerprint.result c.in-Some.i c.tally_of.result c.in-Some.ensures c.tally_of.ensures)
+    (sym c.in-None-take_back.ensures.value)
 
-pub returns-in-None : need.returns-in-None
+pub returns-in-None : goal.returns-in-None
 returns-in-None g c =
-    reversed-none (g .T·Tally .kind) (g .R·Rule .meaning (c .args .rule .now)) (c .args .self .now) (c .args .key .now) (c .fingerprint .result)
-    (le-ltb 64 (length (c .args .key .now)) (c .if-key-gt-LONGEST .left)) (c .fingerprint .ensures .value) (c .args .amount) (sym (c .if-not-is-amount .ensures tt .value))
-    (reads-none (g .T·Tally .kind) (c .args .self .now) (c .fingerprint .result) (c .in-None .ensures tt))
+    reversed_none g.T.Tally.kind (g.R.Rule.meaning c.args.rule.now) c.args.self.now c.args.key.now c.fingerprint.result
+    (le-ltb 64 (length c.args.key.now) c.if-key-gt-LONGEST.false) c.fingerprint.ensures.value c.args.amount (sym c.if-not-is_amount.ensures.value)
+    (reads_none g.T.Tally.kind c.args.self.now c.fingerprint.result c.in-None.ensures)

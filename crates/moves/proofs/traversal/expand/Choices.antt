@@ -1,6 +1,0 @@
-use Rattle·seats.specs.Shapes.{size}
-use Rattle·moves·specs.Traversal.{Expanding}
-use Rattle·moves·proofs.traversal.expand.Given as given
-
-abbrev pub Inv-loop-row : given.InvT-loop-row
-Inv-loop-row g l = Expanding (g .T·Tally .kind .empty) (l .seats) (size (l .shape)) (l .fingerprint) (l .first) (l .row) (l .slots) (l .queue) (l .head) (l .end)
