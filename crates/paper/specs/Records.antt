@@ -49,7 +49,7 @@ first_nonzero i (b ∷ bs) = cond (b == 0) (first_nonzero (suc i) bs) (Some i)
 abbrev pub all_zero : List ℕ → Bool
 all_zero bytes = not (is_some (first_nonzero 0 bytes))
 
--- what the call does not take is zero, and replicas have no octets
+-- packets and octets are zero where the call takes none
 abbrev pub amount_fits : Record → Bool
 amount_fits r = takes_amount r.call || (r.packets == 0 && r.octets == 0)
 

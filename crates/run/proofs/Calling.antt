@@ -20,7 +20,7 @@ use Rattle.run.specs.Printed.{call_for, call_line, figures_held, figures_after}
 use Rattle.run.specs.Called.{Called}
 use Rattle.run.proofs.Written.{figure_long, line_long}
 
--- the figures of the tally that a look_up finds
+-- the figures of the tally that a look-up finds
 module _ {V : Type 0} (k : Kind V) (rule : Meaning) (shown : V → ℕ × ℕ) (small : (v : V) → k.is_value v ≡ true → (shown v).1 ≤ 1000000000000000) where
   held_same : (x y : Option V) → ◌≡◌ {A = Answer V} (Held x) (Held y) → x ≡ y
   held_same x y e = cc
