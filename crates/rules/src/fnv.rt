@@ -12,15 +12,11 @@ pub struct Fnv;
 impl Rule for Fnv {
     ghost meaning = { λ _. fnv_rule };
 
-    ghost code = { fnv_number };
+    ghost NUMBER = { fnv_number };
 
     const NUMBER: u8 = 2;
 
     ghost ranged = { Prim.search rules };
-
-    fn rule_number() -> u8 {
-        Self::NUMBER
-    }
 
     fn fingerprint(&self, key: &[u8], range: NonZeroU32) -> u32 {
         (fnv1a(key) % u64::from(range.get())) as u32

@@ -2,6 +2,7 @@ ghost use Rattle.rules.specs.Rules.{plain_number, plain_rule};
 ghost use Rattle.std.proofs.Common.{rules};
 
 use crate::rule::Rule;
+use numbers::little_endian::read_u64;
 use std::num::NonZeroU32;
 
 // The number in the key's first eight bytes, or all if fewer, least byte first, by its remainder.
@@ -11,21 +12,16 @@ pub struct PlainNumber;
 impl Rule for PlainNumber {
     ghost meaning = { λ _. plain_rule };
 
-    ghost code = { plain_number };
+    ghost NUMBER = { plain_number };
 
     const NUMBER: u8 = 1;
 
     ghost ranged = { Prim.search rules };
 
-    fn rule_number() -> u8 {
-        Self::NUMBER
-    }
-
     fn fingerprint(&self, key: &[u8], range: NonZeroU32) -> u32 {
-        let mut number: u64 = 0;
-        for i in (0..key.len().min(8)).rev() {
-            number = number * 256 + u64::from(key[i]);
-        }
-        (number % u64::from(range.get())) as u32
+        let mut first = [0; 8];
+        let count = key.len().min(8);
+        first[..count].copy_from_slice(&key[..count]);
+        (read_u64(&first, 0) % u64::from(range.get())) as u32
     }
 }

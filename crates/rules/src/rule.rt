@@ -9,14 +9,16 @@ pub trait Rule {
     ghost meaning: { Self → Meaning };
 
     // The number by which papers name the rule, or 0 if they name it by none.
-    ghost code: { ℕ };
+    ghost NUMBER: { ℕ };
 
-    // The same number in code, which `rule_number` gives.
     const NUMBER: u8;
 
     // The rule's number.
     fn rule_number() -> u8
-        ensures { result ≡ code };
+        ensures { result ≡ NUMBER }
+    {
+        Self::NUMBER
+    }
 
     // The fingerprint of a key, below the range. The rule stays as it was.
     fn fingerprint(&self, key: &[u8], range: NonZeroU32) -> u32

@@ -9,10 +9,10 @@ use Rattle.tallies.specs.Traffic.{traffic, sum, within_ceilings, traffic_kind}
 -- something that is there only under a test
 some_if : {X : Type 0} (b : Bool) (x y : X) → cond b (Some x) None ≡ Some y → (b ≡ true) × (x ≡ y)
 some_if true x y e = (refl, cc)
-some_if false x y e = let z : ◌≡◌ {A = ℕ} 0 1 = cc in absurd (omega arith)
+some_if false x y e = cc
 
 none_if : {X : Type 0} (b : Bool) (x : X) → cond b (Some x) None ≡ None → b ≡ false
-none_if true x e = let z : ◌≡◌ {A = ℕ} 0 1 = cc in absurd (omega arith)
+none_if true x e = cc
 none_if false x e = refl
 
 pub same_traffic : (v w : Traffic) → v.packets ≡ w.packets → v.octets ≡ w.octets → v ≡ w

@@ -10,15 +10,11 @@ pub struct Replicas(pub u32);
 impl Tally for Replicas {
     ghost kind = { replicas_kind };
 
-    ghost code = { replicas_number };
+    ghost NUMBER = { replicas_number };
 
     const NUMBER: u8 = 1;
 
     ghost lawful = { Prim.search rules };
-
-    fn kind_number() -> u8 {
-        Self::NUMBER
-    }
 
     fn empty() -> Replicas {
         Replicas(0)
@@ -33,12 +29,10 @@ impl Tally for Replicas {
     }
 
     fn join(&self, amount: &Replicas) -> Option<Replicas> {
-        let sum = self.0.checked_add(amount.0)?;
-        Some(Replicas(sum))
+        self.0.checked_add(amount.0).map(Replicas)
     }
 
     fn take_back(&self, amount: &Replicas) -> Option<Replicas> {
-        let rest = self.0.checked_sub(amount.0)?;
-        Some(Replicas(rest))
+        self.0.checked_sub(amount.0).map(Replicas)
     }
 }

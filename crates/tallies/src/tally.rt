@@ -7,14 +7,16 @@ pub trait Tally: Sized {
     ghost kind: { Kind Self };
 
     // The number by which papers name the kind, or 0 if they name it by none.
-    ghost code: { ℕ };
+    ghost NUMBER: { ℕ };
 
-    // The same number in code, which `kind_number` gives.
     const NUMBER: u8;
 
     // The kind's number.
     fn kind_number() -> u8
-        ensures { result ≡ code };
+        ensures { result ≡ NUMBER }
+    {
+        Self::NUMBER
+    }
 
     // The value of what is not held.
     fn empty() -> Self

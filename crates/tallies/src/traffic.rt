@@ -16,15 +16,11 @@ pub struct Traffic {
 impl Tally for Traffic {
     ghost kind = { traffic_kind };
 
-    ghost code = { traffic_number };
+    ghost NUMBER = { traffic_number };
 
     const NUMBER: u8 = 2;
 
     ghost lawful = { traffic_lawful };
-
-    fn kind_number() -> u8 {
-        Self::NUMBER
-    }
 
     fn empty() -> Traffic {
         Traffic {
@@ -43,10 +39,10 @@ impl Tally for Traffic {
 
     fn join(&self, amount: &Traffic) -> Option<Traffic> {
         let packets = self.packets.checked_add(amount.packets)?;
-        let octets = self.octets.checked_add(amount.octets)?;
-        if octets > MOST_OCTETS {
-            return None;
-        }
+        let octets = self
+            .octets
+            .checked_add(amount.octets)
+            .filter(|octets| *octets <= MOST_OCTETS)?;
         Some(Traffic { packets, octets })
     }
 
