@@ -1,5 +1,5 @@
 -- Bytes printed one piece after another. Assumes nothing.
-use Rattle.std.proofs.Common.{◌≡◌, ℕ, ◌+◌, ◌≤◌, List, [], ◌++◌, length, sym, refl, ap, ◌∙◌, arith, length-append}
+use Rattle.std.proofs.Common.{◌≡◌, ℕ, List, [], ◌++◌, length, sym, refl, ap, ◌∙◌, arith, length-append}
 use Rattle.numbers.specs.Buffers.{put}
 use Rattle.numbers.proofs.Puts.{put_put, length_put}
 use Rattle.run.specs.declared.lines.Printer.{Printer}

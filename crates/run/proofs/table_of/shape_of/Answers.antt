@@ -1,4 +1,4 @@
-use Rattle.std.proofs.Common.{◌≤◌, arith, rules, mul-le-mul}
+use Rattle.std.proofs.Common.{◌≤◌, arith, mul-le-mul}
 use Rattle.run.proofs.Papers.{shape_limits}
 use Rattle.run.proofs.table_of.shape_of.Goals as goal
 
