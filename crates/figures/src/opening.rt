@@ -8,22 +8,29 @@ use seats::shape::Shape;
 use table::table::Table;
 use tallies::replicas::Replicas;
 
-// The number of a refusal, or 0.
+// What is opened: buckets, most rows, rows, and the seats lent; and the number of the refusal, or 0.
+const OPENINGS: [(&str, [u32; 3], usize, u64); 7] = [
+    ("opening 1 bucket", [1, 1, 1], 1, 1),
+    ("opening 2 buckets", [2, 1, 1], 2, 0),
+    ("opening 4096 buckets", [4096, 1, 1], 4096, 0),
+    ("opening 4097 buckets", [4097, 1, 1], 4097, 1),
+    ("opening 9 rows", [2, 9, 1], 18, 2),
+    ("opening 2 rows of 1", [2, 1, 2], 2, 2),
+    ("opening on a seat too few", [2, 1, 1], 1, 3),
+];
+
+// The number by which an outcome is told: that of the refusal, or 0.
 fn number_of<X: Drop>(outcome: Result<X, Refusal>) -> u64 {
-    match outcome {
-        Ok(_) => 0,
-        Err(refusal) => u64::from(refusal.number()),
-    }
+    outcome.err().map_or(0, |refusal| u64::from(refusal.number()))
 }
 
 // The number that a look-up of this key is refused with, or 0.
 fn key_number(key: &[u8]) -> anyhow::Result<u64> {
-    let empty = Seat {
+    let mut seats = [Seat {
         carry: 0,
         flag: false,
         tally: Replicas(0),
-    };
-    let mut seats = [empty; 2];
+    }; 2];
     let Ok(shape) = Shape::check(2, 1, 1, seats.len()) else {
         return Err(anyhow!("the table does not open"));
     };
@@ -32,48 +39,10 @@ fn key_number(key: &[u8]) -> anyhow::Result<u64> {
 }
 
 pub fn tell_all(rt: &HostRuntime) -> anyhow::Result<()> {
-    tell_number(
-        rt,
-        "opening 1 bucket",
-        1,
-        number_of(Shape::check(1, 1, 1, 1)),
-    )?;
-    tell_number(
-        rt,
-        "opening 2 buckets",
-        0,
-        number_of(Shape::check(2, 1, 1, 2)),
-    )?;
-    tell_number(
-        rt,
-        "opening 4096 buckets",
-        0,
-        number_of(Shape::check(4096, 1, 1, 4096)),
-    )?;
-    tell_number(
-        rt,
-        "opening 4097 buckets",
-        1,
-        number_of(Shape::check(4097, 1, 1, 4097)),
-    )?;
-    tell_number(
-        rt,
-        "opening 9 rows",
-        2,
-        number_of(Shape::check(2, 9, 1, 18)),
-    )?;
-    tell_number(
-        rt,
-        "opening 2 rows of 1",
-        2,
-        number_of(Shape::check(2, 1, 2, 2)),
-    )?;
-    tell_number(
-        rt,
-        "opening on a seat too few",
-        3,
-        number_of(Shape::check(2, 1, 1, 1)),
-    )?;
+    for (what, [buckets, most, rows], seats, expected) in OPENINGS {
+        let opened = Shape::check(buckets, most, rows, seats);
+        tell_number(rt, what, expected, number_of(opened))?;
+    }
     tell_number(rt, "a key of 64 bytes", 0, key_number(&[1; 64])?)?;
     tell_number(rt, "a key of 65 bytes", 5, key_number(&[1; 65])?)
 }

@@ -3,6 +3,8 @@ use anyhow::anyhow;
 use paper::header::Header;
 use paper::record::{Call, Record};
 use paper_writer::write::write_paper;
+use tallies::tally::Tally;
+use tallies::traffic::Traffic;
 
 // The sample's header.
 pub const NINE: Header = Header {
@@ -14,13 +16,23 @@ pub const NINE: Header = Header {
 };
 
 // The calls of the large paper.
-const LARGE: u32 = 1900;
+const LARGE_CALLS: u32 = 1900;
+
+// The header of a large paper, of plain numbers and replicas: 256 buckets with four rows in use of five.
+pub const LARGE: Header = Header {
+    buckets: 256,
+    rows: 4,
+    most: 5,
+    rule: 1,
+    kind: 1,
+};
 
 // A key with a number in its first two bytes.
 fn key(number: u32) -> [u8; 13] {
+    let [low, high, _, _] = number.to_le_bytes();
     let mut key = [0; 13];
-    key[0] = (number & 0xff) as u8;
-    key[1] = ((number >> 8) & 0xff) as u8;
+    key[0] = low;
+    key[1] = high;
     key
 }
 
@@ -97,18 +109,12 @@ fn large_call(i: u32, traffic: bool) -> Record {
     }
 }
 
-// A paper of 1,900 calls for 256 buckets with four rows in use of five.
-pub fn large_paper(rt: &HostRuntime, rule: u8, kind: u8) -> anyhow::Result<Vec<u8>> {
-    let header = Header {
-        buckets: 256,
-        rows: 4,
-        most: 5,
-        rule,
-        kind,
-    };
+// A paper of 1,900 calls under this header.
+pub fn large_paper(rt: &HostRuntime, header: Header) -> anyhow::Result<Vec<u8>> {
+    let traffic = header.kind == <Traffic as Tally>::kind_number();
     let mut records = Vec::new(rt.alloc());
-    for i in 0..LARGE {
-        records.push(large_call(i, kind == 2))?;
+    for i in 0..LARGE_CALLS {
+        records.push(large_call(i, traffic))?;
     }
     let mut paper = vec![in rt.alloc(); 0; 51200]?;
     match write_paper(header, records.as_slice(), paper.as_mut_slice()) {

@@ -1,5 +1,6 @@
 mod Calling
 mod Papers
+mod Printers
 mod Printing
 pub mod Running
 mod Spelled

@@ -1,5 +1,5 @@
 -- What a sound paper tells of its table and of how many records it has. Assumes nothing.
-use Rattle.std.proofs.Common.{◌≡◌, ℕ, suc, ◌*◌, ◌/◌, ◌<◌, ◌≤◌, true, ltb, leb, List, [], ◌∷◌, length, get_or, is_ok, Ok, ap, subst, mul-le-mul, arith, length-append}
+use Rattle.std.proofs.Common.{◌≡◌, ℕ, suc, ◌*◌, ◌/◌, ◌<◌, ◌≤◌, true, ltb, leb, List, [], ◌∷◌, length, get_or, is_ok, Ok, ap, subst, arith, length-append}
 use Rattle.std.specs.List.{flat_map}
 use Rattle.std.proofs.lemmas.Bool.{and_parts, leb-true, ltb-true}
 use Rattle.blocks.specs.Blocks.{blocks_in, is_length}
@@ -75,13 +75,3 @@ header_sound paper h is =
     let told = paper_tells paper h is in
     let some : 0 < length (blocks_in paper) = omega (arith, length_pieces 512 (length paper / 512) paper, paper_some (length paper) told.0) in
     subst (λ x. header_fits x ≡ true) (header_is (header_of paper) 0 (blocks_in paper) h told.1) (first_fits (header_of paper) 0 (blocks_in paper) h some told.1)
-
--- how many seats its table has, where the numbers are those of the header
-pub seats_few : (paper : List ℕ) (h : Header) (buckets most : ℕ) → paper_checked paper ≡ Ok h → buckets ≡ h.buckets → most ≡ h.most → buckets * most ≤ 2048
-seats_few paper h buckets most is same alike =
-    let fit = shape_limits h (header_sound paper h is) in
-    let few = fit.few in
-    let narrow = fit.narrow in
-    let low : buckets ≤ 256 = omega arith in
-    let small : most ≤ 8 = omega arith in
-    mul-le-mul low small

@@ -3,6 +3,7 @@ pub mod Faults
 pub mod Figures
 pub mod Lines
 pub mod Printed
+pub mod Printers
 pub mod Runs
 pub mod Texts
 pub mod Worked

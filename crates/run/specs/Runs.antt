@@ -1,16 +1,27 @@
--- Which papers are run, and why others are not. Assumes nothing.
-use Rattle.std.specs.Prelude.{ℕ, cond, List, Ok, Err, Result, nat_lt}
+-- What a run leaves in a buffer. Assumes nothing.
+use Rattle.std.specs.Prelude.{◌≡◌, ℕ, List, Ok, Err, Result, length}
+use Rattle.numbers.specs.Buffers.{put}
 use Rattle.paper.specs.declared.header.Header.{Header}
 use Rattle.paper.specs.declared.fault.PaperFault.{PaperFault}
-use Rattle.paper.specs.Checks.{paper_checked}
+use Rattle.paper.specs.declared.«record».Record.{Record}
 use Rattle.run.specs.declared.fault.RunFault.{RunFault}
-use Rattle.run.specs.declared.fault.RunFault.TheVariants.{Room, InPaper}
+use Rattle.run.specs.declared.fault.RunFault.TheVariants.{InPaper}
+use Rattle.run.specs.Printed.{all_lines}
 
--- a paper's fault as one of the run
-abbrev pub lifted : Result Header PaperFault → Result Header RunFault
-lifted (Ok h) = Ok h
-lifted (Err fault) = Err (InPaper fault)
+-- so many bytes are written, these, at the start, and the rest is as it was
+pub record Wrote (before bytes : List ℕ) (n : ℕ) (end : List ℕ) : Type 0 where
+  pub next : n ≡ length bytes
+  pub after : end ≡ put before 0 bytes
 
--- the header of a sound paper, where the buffer has so many bytes
-abbrev pub header_for : List ℕ → ℕ → Result Header RunFault
-header_for paper room = cond (nat_lt room 68400) (Err Room) (lifted (paper_checked paper))
+-- by what the check of the paper answers: its lines are written, or nothing is
+abbrev pub ran : Result Header PaperFault → List Record → Result ℕ RunFault
+ran (Ok h) records = Ok (length (all_lines h records))
+ran (Err fault) records = Err (InPaper fault)
+
+abbrev pub left : List ℕ → Result Header PaperFault → List Record → List ℕ
+left before (Ok h) records = put before 0 (all_lines h records)
+left before (Err fault) records = before
+
+pub record Ran (before : List ℕ) (checked : Result Header PaperFault) (records : List Record) (outcome : Result ℕ RunFault) (end : List ℕ) : Type 0 where
+  pub answer : outcome ≡ ran checked records
+  pub after : end ≡ left before checked records

@@ -7,5 +7,6 @@ pub mod fault;
 pub mod figured;
 mod lines;
 pub mod print;
+mod sound;
 mod table_of;
 pub mod worked;

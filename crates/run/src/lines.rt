@@ -1,7 +1,7 @@
-// Printed lines, into a lent buffer.
-ghost use Rattle.std.specs.Prelude.{◌≡◌, ◌+◌, ◌≤◌, length};
-ghost use Rattle.numbers.specs.Buffers.{put};
+// Printed lines, in a lent buffer.
+ghost use Rattle.std.specs.Prelude.{[], ◌∷◌, decimal};
 ghost use Rattle.run.specs.Lines.{figure, line as line_bytes, fault_line};
+ghost use Rattle.run.specs.Printers.{Fits, Prints};
 
 use numbers::decimal::write_decimal;
 
@@ -14,37 +14,58 @@ pub(crate) struct Line {
     pub(crate) second: u64,
 }
 
-// Writes a number, and a byte behind it, and gives the place after them.
-fn write_figure(out: &mut [u8], at: usize, n: u64, end: u8) -> usize
-    requires { at + length (figure n end) ≤ length out.old }
-    ensures next { result ≡ at + length (figure n end) }
-    ensures after { out.new ≡ put out.old at (figure n end) }
-{
-    let last = write_decimal(out, at, n);
-    out[last] = end;
-    last + 1
+// A lent buffer, of which the bytes before `at` are printed.
+#[derive(Drop)]
+pub(crate) struct Printer<'o> {
+    pub(crate) out: &'o mut [u8],
+    pub(crate) at: usize,
 }
 
-pub(crate) fn write_line(out: &mut [u8], at: usize, line: Line) -> usize
-    requires { at + length (line_bytes line.place line.number line.first line.second) ≤ length out.old }
-    ensures next { result ≡ at + length (line_bytes line.place line.number line.first line.second) }
-    ensures after { out.new ≡ put out.old at (line_bytes line.place line.number line.first line.second) }
-{
-    let at = write_figure(out, at, line.place, b' ');
-    let at = write_figure(out, at, line.number, b' ');
-    let at = write_figure(out, at, line.first, b' ');
-    write_figure(out, at, line.second, b'\n')
-}
+impl Printer<'_> {
+    pub(crate) fn print_line(&mut self, line: Line)
+        requires { Fits self.old (line_bytes line.place line.number line.first line.second) }
+        ensures { Prints self.old (line_bytes line.place line.number line.first line.second) self.new }
+    {
+        self.print_figure(line.place, b' ');
+        self.print_figure(line.number, b' ');
+        self.print_figure(line.first, b' ');
+        self.print_figure(line.second, b'\n');
+    }
 
-// The line of a fault, by its number, its block and its record.
-pub(crate) fn write_fault(out: &mut [u8], number: u64, block: u64, record: u64) -> usize
-    requires { length (fault_line number block «record») ≤ length out.old }
-    ensures next { result ≡ length (fault_line number block «record») }
-    ensures after { out.new ≡ put out.old 0 (fault_line number block «record») }
-{
-    out[0] = b'F';
-    out[1] = b' ';
-    let at = write_figure(out, 2, number, b' ');
-    let at = write_figure(out, at, block, b' ');
-    write_figure(out, at, record, b'\n')
+    // The line of a fault, by its number, its block and its record.
+    pub(crate) fn print_fault(&mut self, number: u64, block: u64, record: u64)
+        requires { Fits self.old (fault_line number block «record») }
+        ensures { Prints self.old (fault_line number block «record») self.new }
+    {
+        self.print_byte(b'F');
+        self.print_byte(b' ');
+        self.print_figure(number, b' ');
+        self.print_figure(block, b' ');
+        self.print_figure(record, b'\n');
+    }
+
+    // Prints a number, and a byte behind it.
+    fn print_figure(&mut self, n: u64, end: u8)
+        requires { Fits self.old (figure n end) }
+        ensures { Prints self.old (figure n end) self.new }
+    {
+        self.print_number(n);
+        self.print_byte(end);
+    }
+
+    // Prints the decimal digits of a number.
+    fn print_number(&mut self, n: u64)
+        requires { Fits self.old (decimal n) }
+        ensures { Prints self.old (decimal n) self.new }
+    {
+        self.at = write_decimal(self.out, self.at, n);
+    }
+
+    fn print_byte(&mut self, byte: u8)
+        requires { Fits self.old (byte ∷ []) }
+        ensures { Prints self.old (byte ∷ []) self.new }
+    {
+        self.out[self.at] = byte;
+        self.at += 1;
+    }
 }

@@ -1,15 +1,20 @@
 // What is printed of a paper.
-ghost use Rattle.std.specs.Prelude.{◌≡◌, length, if◌then◌else◌, Ok as Done, Err as NotDone, nat_lt};
+ghost use Rattle.std.specs.Prelude.{◌≡◌, ◌≤◌, length, if◌then◌else◌, Ok as Done, Err as NotDone, nat_lt};
 ghost use Rattle.numbers.specs.Buffers.{put};
+ghost use Rattle.paper.specs.Checks.{paper_checked};
+ghost use Rattle.paper.specs.Faults.{figures_of};
+ghost use Rattle.paper.specs.Reading.{paper_records};
 ghost use Rattle.run.specs.declared.fault.RunFault.TheVariants.{Room as NoRoom};
+ghost use Rattle.run.specs.Lines.{fault_line};
 ghost use Rattle.run.specs.Printed.{printed};
-ghost use Rattle.run.specs.Runs.{header_for};
+ghost use Rattle.run.specs.Runs.{Ran, Wrote};
 
 use crate::fault::RunFault;
-use crate::lines::write_fault;
+use crate::lines::Printer;
+use crate::sound::SoundPaper;
 use crate::table_of::write_by_kind;
 use paper::check::check_paper;
-use paper::header::Header;
+use paper::fault::PaperFault;
 
 // The most bytes that are printed of a paper: 1,900 lines of 36 bytes.
 pub const MOST_PRINTED: usize = 68_400;
@@ -21,15 +26,28 @@ pub fn most_printed() -> usize
     MOST_PRINTED
 }
 
-// The header of a paper that is sound, where there is room for its lines.
-fn header_to_run(paper: &[u8], room: usize) -> Result<Header, RunFault>
-    ensures { result ≡ header_for paper.now room }
+// Runs a paper on a table of its own, and writes a line for each call. Gives how many bytes they are, or why the paper is not
+// sound, and then writes nothing.
+fn print_sound(paper: &[u8], out: &mut [u8; MOST_PRINTED]) -> Result<usize, RunFault>
+    ensures { Ran out.old (paper_checked paper.now) (paper_records paper.now) result out.new }
 {
-    if room < MOST_PRINTED {
-        return Err(RunFault::Room);
-    }
     let header = check_paper(paper)?;
-    Ok(header)
+    let paper = SoundPaper {
+        bytes: paper,
+        header,
+    };
+    Ok(write_by_kind(&paper, out))
+}
+
+// Writes the line of a paper's fault, and gives how many bytes it is.
+fn write_fault(fault: PaperFault, out: &mut [u8; MOST_PRINTED]) -> usize
+    ensures short { result ≤ 14 }
+    ensures line { Wrote out.old (fault_line (figures_of fault).0 (figures_of fault).1 (figures_of fault).2) result out.new }
+{
+    let (number, block, record) = fault.figures();
+    let mut printer = Printer { out, at: 0 };
+    printer.print_fault(u64::from(number), u64::from(block), u64::from(record));
+    printer.at
 }
 
 // Runs a paper on a table of its own, and prints a line for each call into the buffer, or the one line of the paper's fault.
@@ -38,12 +56,12 @@ pub fn print_paper(paper: &[u8], out: &mut [u8]) -> Result<usize, RunFault>
     ensures answer { result ≡ (if nat_lt (length out.old) 68400 then NotDone NoRoom else Done (length (printed paper.now))) }
     ensures after { out.new ≡ (if nat_lt (length out.old) 68400 then out.old else put out.old 0 (printed paper.now)) }
 {
-    match header_to_run(paper, out.len()) {
-        Ok(header) => Ok(write_by_kind(header, paper, out)),
+    let Some(lines) = out.first_chunk_mut() else {
+        return Err(RunFault::Room);
+    };
+    match print_sound(paper, lines) {
+        Ok(n) => Ok(n),
         Err(RunFault::Room) => Err(RunFault::Room),
-        Err(RunFault::InPaper(fault)) => {
-            let (number, block, record) = fault.figures();
-            Ok(write_fault(out, u64::from(number), u64::from(block), u64::from(record)))
-        }
+        Err(RunFault::InPaper(fault)) => Ok(write_fault(fault, lines)),
     }
 }

@@ -1,18 +1,16 @@
 // The table that a paper's header asks for: its shape, its rule, and its kind with the seats.
-ghost use Rattle.std.specs.Prelude.{◌≡◌, ◌*◌, ◌≤◌, true, length, Ok as Sound};
-ghost use Rattle.numbers.specs.Buffers.{put};
-ghost use Rattle.tallies.specs.Replicas.{replicas_kind};
-ghost use Rattle.tallies.specs.Traffic.{traffic_kind};
+ghost use Rattle.std.specs.Prelude.{◌≡◌, ◌*◌, ◌≤◌, true, length};
 ghost use Rattle.seats.specs.Shapes.{size};
 ghost use Rattle.book.specs.Books.{blank};
-ghost use Rattle.paper.specs.Checks.{paper_checked};
 ghost use Rattle.paper.specs.Headers.{header_fits};
 ghost use Rattle.paper.specs.Reading.{paper_records};
-ghost use Rattle.run.specs.Figures.{replicas_shown, replicas_made, traffic_shown, traffic_made};
 ghost use Rattle.run.specs.Printed.{lines, all_lines, rule_of, size_of};
+ghost use Rattle.run.specs.Runs.{Wrote};
 
 use crate::calls::write_lines;
 use crate::figured::Figured;
+use crate::print::MOST_PRINTED;
+use crate::sound::SoundPaper;
 use paper::header::Header;
 use rules::fnv::Fnv;
 use rules::plain_number::PlainNumber;
@@ -26,10 +24,11 @@ use tallies::traffic::Traffic;
 // The seats of the largest table that a header may ask for.
 const SEATS: usize = 2048;
 
-// The shape that a fit header asks for.
+// The shape that a fit header asks for. It has seats enough.
 fn shape_of(header: Header) -> Shape
     requires { header_fits header ≡ true }
-    ensures { size result ≡ size_of header }
+    ensures size { size result ≡ size_of header }
+    ensures few { result.buckets * result.most ≤ 2048 }
 {
     Shape {
         buckets: u32::from(header.buckets),
@@ -38,74 +37,39 @@ fn shape_of(header: Header) -> Shape
     }
 }
 
-// The lines of a sound paper, by its header's rule.
-fn write_by_rule<T: Figured + Copy>(
+fn empty_seat<T: Tally>() -> Seat<T> {
+    Seat {
+        carry: 0,
+        flag: false,
+        tally: T::empty(),
+    }
+}
+
+// The lines of a sound paper by its header's rule, on these seats.
+fn write_on<T: Figured + Copy>(
     seats: &mut [Seat<T>],
-    header: Header,
-    paper: &[u8],
-    out: &mut [u8],
+    paper: &SoundPaper<'_>,
+    out: &mut [u8; MOST_PRINTED],
 ) -> usize
-    requires seats { header.buckets * header.most ≡ length seats.old }
-    requires sound { paper_checked paper.now ≡ Sound header }
-    requires room { 68400 ≤ length out.old }
-    ensures next { result ≡ length (lines T.Tally.kind (rule_of header) T.Figured.shown T.Figured.made (blank (size_of header)) 1 (paper_records paper.now)) }
-    ensures after { out.new ≡ put out.old 0 (lines T.Tally.kind (rule_of header) T.Figured.shown T.Figured.made (blank (size_of header)) 1 (paper_records paper.now)) }
+    requires { length seats.old ≡ 2048 }
+    ensures { Wrote out.old (lines T.Tally.kind (rule_of paper.now.header) T.Figured.shown T.Figured.made (blank (size_of paper.now.header)) 1 (paper_records paper.now.bytes.now)) result out.new }
 {
-    let shape = shape_of(header);
-    if header.rule == <PlainNumber as Rule>::rule_number() {
+    let shape = shape_of(paper.header);
+    let seats = &mut seats[..shape.seats()];
+    if paper.header.rule == <PlainNumber as Rule>::rule_number() {
         write_lines(seats, shape, &PlainNumber, paper, out)
     } else {
         write_lines(seats, shape, &Fnv, paper, out)
     }
 }
 
-// The lines of a sound paper of replicas, on seats of its own.
-fn write_replicas(header: Header, paper: &[u8], out: &mut [u8]) -> usize
-    requires sound { paper_checked paper.now ≡ Sound header }
-    requires room { 68400 ≤ length out.old }
-    ensures next { result ≡ length (lines replicas_kind (rule_of header) replicas_shown replicas_made (blank (size_of header)) 1 (paper_records paper.now)) }
-    ensures after { out.new ≡ put out.old 0 (lines replicas_kind (rule_of header) replicas_shown replicas_made (blank (size_of header)) 1 (paper_records paper.now)) }
+// The lines of a sound paper in its header's kind, on seats of its own.
+pub(crate) fn write_by_kind(paper: &SoundPaper<'_>, out: &mut [u8; MOST_PRINTED]) -> usize
+    ensures { Wrote out.old (all_lines paper.now.header (paper_records paper.now.bytes.now)) result out.new }
 {
-    let seat = Seat {
-        carry: 0,
-        flag: false,
-        tally: Replicas(0),
-    };
-    let mut seats = [seat; SEATS];
-    let many = usize::from(header.buckets) * usize::from(header.most);
-    write_by_rule(&mut seats[0..many], header, paper, out)
-}
-
-// The lines of a sound paper of traffic, on seats of its own.
-fn write_traffic(header: Header, paper: &[u8], out: &mut [u8]) -> usize
-    requires sound { paper_checked paper.now ≡ Sound header }
-    requires room { 68400 ≤ length out.old }
-    ensures next { result ≡ length (lines traffic_kind (rule_of header) traffic_shown traffic_made (blank (size_of header)) 1 (paper_records paper.now)) }
-    ensures after { out.new ≡ put out.old 0 (lines traffic_kind (rule_of header) traffic_shown traffic_made (blank (size_of header)) 1 (paper_records paper.now)) }
-{
-    let seat = Seat {
-        carry: 0,
-        flag: false,
-        tally: Traffic {
-            packets: 0,
-            octets: 0,
-        },
-    };
-    let mut seats = [seat; SEATS];
-    let many = usize::from(header.buckets) * usize::from(header.most);
-    write_by_rule(&mut seats[0..many], header, paper, out)
-}
-
-// The lines of a sound paper, in its header's kind.
-pub(crate) fn write_by_kind(header: Header, paper: &[u8], out: &mut [u8]) -> usize
-    requires sound { paper_checked paper.now ≡ Sound header }
-    requires room { 68400 ≤ length out.old }
-    ensures next { result ≡ length (all_lines header (paper_records paper.now)) }
-    ensures after { out.new ≡ put out.old 0 (all_lines header (paper_records paper.now)) }
-{
-    if header.kind == <Replicas as Tally>::kind_number() {
-        write_replicas(header, paper, out)
+    if paper.header.kind == <Replicas as Tally>::kind_number() {
+        write_on(&mut [empty_seat::<Replicas>(); SEATS], paper, out)
     } else {
-        write_traffic(header, paper, out)
+        write_on(&mut [empty_seat::<Traffic>(); SEATS], paper, out)
     }
 }

@@ -12,8 +12,8 @@ invariant-loop-record g l =
     let rule = g.R.Rule.meaning l.rule in
     let shown = g.T.Figured.shown in
     let made = g.T.Figured.made in
-    Going k rule shown made (lines k rule shown made (blank (size l.initial.table.shape)) 1 (paper_records l.paper)) l.initial.out
-    l.table (to_come l.reader.paper.now l.reader.block l.reader.«record») l.out l.at l.place
+    Going k rule shown made (lines k rule shown made (blank (size l.initial.table.shape)) 1 (paper_records l.paper.bytes.now)) l.initial.printer
+    l.table (to_come l.reader.paper.now l.reader.block l.reader.«record») l.printer l.place
     × (length l.words ≡ lent)
 
 abbrev pub decreases-loop-record : goal.decreases-loop-record

@@ -1,40 +1,29 @@
-use Rattle.std.proofs.Common.{◌≡◌, ℕ, ltb, length, Ok, Err, Result, ap, ◌∙◌, arith, ltb-false}
-use Rattle.paper.specs.declared.header.Header.{Header}
-use Rattle.paper.specs.Checks.{paper_checked}
-use Rattle.paper.specs.Faults.{figures_of}
-use Rattle.run.specs.declared.fault.RunFault.{RunFault}
-use Rattle.run.specs.declared.fault.RunFault.TheVariants.{InPaper}
-use Rattle.run.specs.Lines.{fault_line}
-use Rattle.run.specs.Runs.{header_for}
-use Rattle.run.proofs.Printing.{fault_short, runs_so, fails_so, printed_is, answered}
+use Rattle.std.proofs.Common.{arith, rules}
+use Rattle.run.proofs.Printing.{sound_answered, fault_answered, never_room}
 use Rattle.run.proofs.print.print_paper.Goals as goal
 
-pub write_fault-requires : goal.write_fault-requires
-write_fault-requires c =
-    let out = c.args.out.now in
-    let failed : ◌≡◌ {A = Result Header RunFault} (Err (InPaper c.in-Err-InPaper.fault)) (header_for c.args.paper.now (length out)) = cc c.in-Err-InPaper.ensures in
-    let told = fails_so (ltb (length out) 68400) (paper_checked c.args.paper.now) c.in-Err-InPaper.fault failed in
-    omega (arith, ltb-false (length out) 68400 told.0, fault_short c.from.result c.from-in-Err-InPaper.result c.from-in-Err-InPaper-2.result (omega arith) (omega arith) (omega arith))
+pub returns-in-Ok-clause-answer : goal.returns-in-Ok-clause-answer
+returns-in-Ok-clause-answer c =
+    (sound_answered 68400 c.args.paper.now c.args.out.now c.in-Some.lines.now c.print_sound.new.out (search rules) (search rules) c.in-Ok.n c.print_sound.array_long c.in-Ok.ensures).answer
 
-pub returns-in-Ok : goal.returns-in-Ok
-returns-in-Ok c =
-    let out = c.args.out.now in
-    let paper = c.args.paper.now in
-    let told = runs_so (ltb (length out) 68400) (paper_checked paper) c.in-Ok.header c.in-Ok.ensures in
-    let done = c.write_by_kind.ensures in
-    let both = answered (ltb (length out) 68400) out c.write_by_kind.new.out _ _ c.write_by_kind.result told.0 (printed_is paper (Ok c.in-Ok.header) told.1) done.next done.after in
-    record { answer = both.answer; after = both.after }
+pub returns-in-Ok-clause-after : goal.returns-in-Ok-clause-after
+returns-in-Ok-clause-after c =
+    (sound_answered 68400 c.args.paper.now c.args.out.now c.in-Some.lines.now c.print_sound.new.out (search rules) (search rules) c.in-Ok.n c.print_sound.array_long c.in-Ok.ensures).after
 
-pub returns-in-Err-InPaper : goal.returns-in-Err-InPaper
-returns-in-Err-InPaper c =
-    let out = c.args.out.now in
-    let paper = c.args.paper.now in
-    let fault = c.in-Err-InPaper.fault in
-    let failed : ◌≡◌ {A = Result Header RunFault} (Err (InPaper fault)) (header_for paper (length out)) = cc c.in-Err-InPaper.ensures in
-    let told = fails_so (ltb (length out) 68400) (paper_checked paper) fault failed in
-    let done = c.write_fault.ensures in
-    let figures = c.figures-number.ensures in
-    let same : fault_line c.from.result c.from-in-Err-InPaper.result c.from-in-Err-InPaper-2.result ≡ fault_line (figures_of fault).0 (figures_of fault).1 (figures_of fault).2 =
-    λ i. fault_line ((c.from.ensures ∙ ap (λ (f : ℕ × ℕ × ℕ). f.0) figures) i) ((c.from-in-Err-InPaper.ensures ∙ ap (λ (f : ℕ × ℕ × ℕ). f.1) figures) i) ((c.from-in-Err-InPaper-2.ensures ∙ ap (λ (f : ℕ × ℕ × ℕ). f.2) figures) i) in
-    let both = answered (ltb (length out) 68400) out c.write_fault.new.out _ _ c.write_fault.result told.0 (same ∙ printed_is paper (Err fault) told.1) done.next done.after in
-    record { answer = both.answer; after = both.after }
+pub returns-in-Err-Room-clause-answer : goal.returns-in-Err-Room-clause-answer
+returns-in-Err-Room-clause-answer c =
+    absurd (never_room 68400 c.args.paper.now c.args.out.now c.in-Some.lines.now c.print_sound.new.out (search rules) (search rules) c.in-Err-Room.field-0 c.in-Err-Room.field-0-is c.in-Err-Room.ensures)
+
+pub returns-in-Err-Room-clause-after : goal.returns-in-Err-Room-clause-after
+returns-in-Err-Room-clause-after c =
+    absurd (never_room 68400 c.args.paper.now c.args.out.now c.in-Some.lines.now c.print_sound.new.out (search rules) (search rules) c.in-Err-Room.field-0 c.in-Err-Room.field-0-is c.in-Err-Room.ensures)
+
+pub returns-in-Err-InPaper-clause-answer : goal.returns-in-Err-InPaper-clause-answer
+returns-in-Err-InPaper-clause-answer c =
+    (fault_answered 68400 c.args.paper.now c.args.out.now c.in-Some.lines.now c.print_sound.new.out (search rules) (search rules)
+    c.in-Err-InPaper.field-0 c.in-Err-InPaper.fault c.write_fault.new.out c.write_fault.result c.in-Err-InPaper.field-0-is (omega arith) c.in-Err-InPaper.ensures c.write_fault.ensures.line).answer
+
+pub returns-in-Err-InPaper-clause-after : goal.returns-in-Err-InPaper-clause-after
+returns-in-Err-InPaper-clause-after c =
+    (fault_answered 68400 c.args.paper.now c.args.out.now c.in-Some.lines.now c.print_sound.new.out (search rules) (search rules)
+    c.in-Err-InPaper.field-0 c.in-Err-InPaper.fault c.write_fault.new.out c.write_fault.result c.in-Err-InPaper.field-0-is (omega arith) c.in-Err-InPaper.ensures c.write_fault.ensures.line).after

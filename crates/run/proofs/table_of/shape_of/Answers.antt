@@ -1,4 +1,4 @@
-use Rattle.std.proofs.Common.{arith}
+use Rattle.std.proofs.Common.{◌≤◌, arith, mul-le-mul}
 use Rattle.run.proofs.Papers.{shape_limits}
 use Rattle.run.proofs.table_of.shape_of.Goals as goal
 
@@ -6,3 +6,10 @@ pub invariant_of-result : goal.invariant_of-result
 invariant_of-result c =
     let fit = shape_limits c.args.header c.requires in
     record { ok = (omega arith, omega arith, omega arith, omega arith, omega arith) }
+
+pub returns-clause-few : goal.returns-clause-few
+returns-clause-few c =
+    let fit = shape_limits c.args.header c.requires in
+    let low : c.from.result ≤ 256 = omega (arith, fit.few) in
+    let small : c.from-2.result ≤ 8 = omega (arith, fit.narrow) in
+    mul-le-mul low small
