@@ -2,7 +2,7 @@
 use Rattle.std.specs.Prelude.{◌≡◌, ℕ, List, [], ◌∷◌}
 use Rattle.tallies.specs.Kinds.{Kind}
 use Rattle.rules.specs.Rules.{Meaning}
-use Rattle.book.specs.declared.answer.Answer.{Answer}
+use Rattle.book.specs.Answers.{Answer}
 use Rattle.book.specs.Books.{Book, Call, answers, after_all}
 use Rattle.table.specs.declared.request.Request.{Request}
 use Rattle.table.specs.declared.table.Table.{Table}

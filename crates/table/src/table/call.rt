@@ -36,11 +36,15 @@ impl<T: Tally + Copy> Table<'_, T> {
             }
             Request::Erase { key } => self.erase(rule, key).map(Outcome::Tallied),
             Request::LookUp { key } => self.look_up(rule, key).map(Outcome::Held),
-            // the borrow checker follows no `map` here: `Sized` does not name the `T` of its result
-            Request::Widen => Ok(Outcome::Sized(self.widen()?)),
+            // no `map` here: the borrow checker follows it only where the function's argument names the `T` of its result
+            Request::Widen => {
+                let widened = self.widen()?;
+                Ok(Outcome::Sized(widened))
+            }
             Request::Narrow { words: many } => {
                 let some = words.len().min(*many);
-                Ok(Outcome::Sized(self.narrow(&mut words[0..some])?))
+                let narrowed = self.narrow(&mut words[0..some])?;
+                Ok(Outcome::Sized(narrowed))
             }
         }
     }
