@@ -29,6 +29,7 @@ pub(crate) fn make_row(
     let mut words = [0; WORDS];
     let (pieces, _) = calls.as_chunks::<PIECE>();
     let count = pieces.len().min(numbers.len());
+    // written by index: after a `zip` with `iter_mut` a proof knows only how many numbers there are
     for (i, piece) in pieces[..count].iter().enumerate() {
         let answer = table.call(&PlainNumber, &request_of(piece), &mut words);
         numbers[i] = number_of(&answer);

@@ -27,6 +27,7 @@ pub fn replay<T: Tally + Copy, R: Rule>(
     ensures account { Account T.Tally.kind (R.Rule.meaning rule.now) }
 {
     let count = requests.len().min(answers.len());
+    // written by index: after a `zip` with `iter_mut` a proof knows only how many answers there are
     for (i, request) in requests[..count].iter().enumerate() {
         answers[i] = table.call(rule, request, words);
     }
