@@ -1,28 +1,19 @@
--- The answer that a call's result stands for, and its number. Assumes nothing.
-use Rattle.std.specs.Prelude.{ℕ, Ok, Err, Option, Result}
+-- What a call answers, and its number. Assumes nothing.
+use Rattle.std.specs.Prelude.{ℕ, Ok, Err, Result}
 use Rattle.seats.specs.declared.refusal.Refusal.{Refusal}
 use Rattle.seats.specs.Refusals.{refusal_number}
-use Rattle.book.specs.declared.answer.Rows.{Rows}
-use Rattle.book.specs.declared.answer.Answer.{Answer}
-use Rattle.book.specs.declared.answer.Answer.TheVariants.{Tallied, Held, Sized, Refused}
+use Rattle.book.specs.declared.answer.Outcome.{Outcome}
 
--- of a call that gives a tally: a post or an erasure
-abbrev pub of_tally : {V : Type 0} → Result V Refusal → Answer V
-of_tally (Ok v) = Tallied v
-of_tally (Err why) = Refused why
+-- what comes of a call, or why it is turned away
+abbrev pub Answer : Type 0 → Type 0
+Answer V = Result (Outcome V) Refusal
 
--- of a call that gives a tally or nothing: a reversal or a look-up
-abbrev pub of_held : {V : Type 0} → Result (Option V) Refusal → Answer V
-of_held (Ok o) = Held o
-of_held (Err why) = Refused why
-
-abbrev pub of_rows : {V : Type 0} → Result Rows Refusal → Answer V
-of_rows (Ok n) = Sized n
-of_rows (Err why) = Refused why
+-- the answer that a call's result stands for: what it gives is told as such an outcome, and a refusal as it is
+abbrev pub told_as : {X V : Type 0} → (X → Outcome V) → Result X Refusal → Answer V
+told_as outcome (Ok x) = Ok (outcome x)
+told_as outcome (Err why) = Err why
 
 -- the number of the refusal, or 0
 abbrev pub answer_number : {V : Type 0} → Answer V → ℕ
-answer_number (Tallied v) = 0
-answer_number (Held o) = 0
-answer_number (Sized n) = 0
-answer_number (Refused why) = refusal_number why
+answer_number (Ok outcome) = 0
+answer_number (Err why) = refusal_number why

@@ -1,5 +1,5 @@
 -- The account book: what each call answers and what it leaves, with no seats. Assumes nothing.
-use Rattle.std.specs.Prelude.{ℕ, ◌+◌, ◌-◌, ◌*◌, Bool, cond, not, List, [], ◌∷◌, length, Some, None, Option, nat_lt}
+use Rattle.std.specs.Prelude.{ℕ, ◌+◌, ◌-◌, ◌*◌, Bool, cond, not, List, [], ◌∷◌, length, Some, None, Option, Ok, Err, nat_lt}
 use Rattle.seatings.specs.Counts.{count}
 use Rattle.seatings.specs.Seatings.{seatable, also}
 use Rattle.tallies.specs.Kinds.{Kind}
@@ -8,8 +8,8 @@ use Rattle.seats.specs.Shapes.{Size, with_rows}
 use Rattle.seats.specs.Seats.{held, changed}
 use Rattle.seats.specs.declared.refusal.Refusal.{Refusal}
 use Rattle.seats.specs.declared.refusal.Refusal.TheVariants.{Words, LongKey, NoAmount, Ceiling, NoSeating, NotHeld, NotTakenBack, RowLimit, NoNarrowSeating}
-use Rattle.book.specs.declared.answer.Answer.{Answer}
-use Rattle.book.specs.declared.answer.Answer.TheVariants.{Tallied, Held, Sized, Refused}
+use Rattle.book.specs.declared.answer.Outcome.TheVariants.{Tallied, Held, Sized}
+use Rattle.book.specs.Answers.{Answer}
 
 -- the table's numbers, and the tally of each fingerprint that is held
 pub record Book (V : Type 0) : Type 0 where
@@ -68,7 +68,7 @@ pub record Turn (V : Type 0) : Type 0 where
 
 -- refused, and the book as it was
 abbrev pub turned_away : {V : Type 0} → Book V → Refusal → Turn V
-turned_away b why = record { answer = Refused why; book = b }
+turned_away b why = record { answer = Err why; book = b }
 
 -- turned away if the test holds, and else the rest
 abbrev pub check : {V : Type 0} → Book V → Bool → Refusal → Turn V → Turn V
@@ -76,10 +76,10 @@ check b test why rest = cond test (turned_away b why) rest
 
 -- f has the tally v then, and the answer tells it
 abbrev pub gets : {V : Type 0} → Book V → ℕ → V → Turn V
-gets b f v = record { answer = Tallied v; book = enter b f (Some v) }
+gets b f v = record { answer = Ok (Tallied v); book = enter b f (Some v) }
 
 abbrev pub resized : {V : Type 0} → Book V → Turn V
-resized b = record { answer = Sized (record { rows = b.size.rows; held = holding b }); book = b }
+resized b = record { answer = Ok (Sized (record { rows = b.size.rows; held = holding b })); book = b }
 
 -- a post, by what joining gives, and by what is held
 abbrev pub joined : {V : Type 0} → Book V → ℕ → Option V → Turn V
@@ -95,7 +95,7 @@ posted k b f amount (Some v) = joined b f (k.join v amount)
 abbrev pub taken_back : {V : Type 0} → Kind V → Book V → ℕ → Option V → Turn V
 taken_back k b f None = turned_away b NotTakenBack
 taken_back k b f (Some v) =
-    cond (k.is_empty v) (record { answer = Held None; book = enter b f None }) (record { answer = Held (Some v); book = enter b f (Some v) })
+    cond (k.is_empty v) (record { answer = Ok (Held None); book = enter b f None }) (record { answer = Ok (Held (Some v)); book = enter b f (Some v) })
 
 -- a reversal, by what is held
 abbrev pub reversed : {V : Type 0} → Kind V → Book V → ℕ → V → Option V → Turn V
@@ -105,7 +105,7 @@ reversed k b f amount (Some v) = taken_back k b f (k.take_back v amount)
 -- an erasure, by what is held
 abbrev pub erased : {V : Type 0} → Book V → ℕ → Option V → Turn V
 erased b f None = turned_away b NotHeld
-erased b f (Some v) = record { answer = Tallied v; book = enter b f None }
+erased b f (Some v) = record { answer = Ok (Tallied v); book = enter b f None }
 
 -- each call with its checks in their order
 abbrev pub turn : {V : Type 0} → Kind V → Meaning → Book V → Call V → Turn V
@@ -123,7 +123,7 @@ turn k rule b (erase key) =
     (erased b (fingerprint rule b key) (b.entries (fingerprint rule b key)))
 turn k rule b (look_up key) =
     check b (too_long key) LongKey
-    (record { answer = Held (b.entries (fingerprint rule b key)); book = b })
+    (record { answer = Ok (Held (b.entries (fingerprint rule b key))); book = b })
 turn k rule b widen =
     check b (not (nat_lt b.size.rows b.size.most)) RowLimit
     (resized (resize b (b.size.rows + 1)))

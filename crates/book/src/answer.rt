@@ -1,5 +1,5 @@
 ghost use Rattle.std.specs.Prelude.{◌≡◌};
-ghost use Rattle.book.specs.Answers.{answer_number, of_tally, of_held, of_rows};
+ghost use Rattle.book.specs.Answers.{answer_number};
 
 use seats::refusal::Refusal;
 
@@ -10,54 +10,26 @@ pub struct Rows {
     pub held: u32,
 }
 
-// What a call answers.
+// What comes of a call that is not turned away.
 #[derive(Clone, Copy, PartialEq, Eq, Debug)]
-pub enum Answer<T> {
+pub enum Outcome<T> {
     // the tally of the fingerprint, after a post or as it was erased
     Tallied(T),
     // the tally that is held after a reversal or a look-up, or nothing
     Held(Option<T>),
     // after widening or narrowing
     Sized(Rows),
-    // the call is turned away
-    Refused(Refusal),
 }
 
-impl<T> Answer<T> {
-    pub fn of_tally(outcome: Result<T, Refusal>) -> Answer<T>
-        ensures { result ≡ of_tally outcome }
-    {
-        match outcome {
-            Ok(tally) => Answer::Tallied(tally),
-            Err(refusal) => Answer::Refused(refusal),
-        }
-    }
+// What a call answers: what comes of it, or why it is turned away.
+pub type Answer<T> = Result<Outcome<T>, Refusal>;
 
-    pub fn of_held(outcome: Result<Option<T>, Refusal>) -> Answer<T>
-        ensures { result ≡ of_held outcome }
-    {
-        match outcome {
-            Ok(tally) => Answer::Held(tally),
-            Err(refusal) => Answer::Refused(refusal),
-        }
-    }
-
-    pub fn of_rows(outcome: Result<Rows, Refusal>) -> Answer<T>
-        ensures { result ≡ of_rows outcome }
-    {
-        match outcome {
-            Ok(rows) => Answer::Sized(rows),
-            Err(refusal) => Answer::Refused(refusal),
-        }
-    }
-
-    // The number of the refusal, or 0.
-    pub fn number(&self) -> u8
-        ensures { result ≡ answer_number self.now }
-    {
-        match self {
-            Answer::Tallied(_) | Answer::Held(_) | Answer::Sized(_) => 0,
-            Answer::Refused(refusal) => refusal.number(),
-        }
+// The number of the refusal, or 0.
+pub fn number_of<T>(answer: &Answer<T>) -> u8
+    ensures { result ≡ answer_number answer.now }
+{
+    match answer {
+        Ok(_) => 0,
+        Err(refusal) => refusal.number(),
     }
 }

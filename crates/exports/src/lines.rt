@@ -11,8 +11,5 @@ pub extern "C" fn sundrilga_print_paper(paper: &[u8], out: &mut [u8]) -> usize
     ensures answer { result ≡ (if nat_lt (length out.old) 68400 then 0 else length (printed paper.now)) }
     ensures after { out.new ≡ (if nat_lt (length out.old) 68400 then out.old else put out.old 0 (printed paper.now)) }
 {
-    match print_paper(paper, out) {
-        Ok(n) => n,
-        Err(_) => 0,
-    }
+    print_paper(paper, out).unwrap_or(0)
 }

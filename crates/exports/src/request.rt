@@ -1,5 +1,5 @@
 // A call as five bytes ask for it.
-ghost use Rattle.std.specs.Prelude.{◌≡◌, length};
+ghost use Rattle.std.specs.Prelude.{◌≡◌};
 ghost use Rattle.table.specs.Requests.{asked};
 ghost use Rattle.exports.specs.Calls.{lent, piece_asks};
 
@@ -12,9 +12,8 @@ pub(crate) const PIECE: usize = 5;
 // How many work words are lent: two for each bucket of the longest table.
 pub(crate) const WORDS: usize = 8192;
 
-// What five bytes ask of the table. A code that names no other call asks for a look-up.
-pub(crate) fn request_of<'k>(piece: &'k [u8]) -> Request<'k, Replicas>
-    requires { length piece.now ≡ 5 }
+// What five bytes ask of the table. The codes are those of papers' records, and of the C interface. A code that names no other call asks for a look-up.
+pub(crate) fn request_of<'k>(piece: &'k [u8; PIECE]) -> Request<'k, Replicas>
     ensures { asked lent result ≡ piece_asks piece.now }
 {
     let key = &piece[1..PIECE];

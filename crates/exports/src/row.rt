@@ -6,6 +6,7 @@ ghost use Rattle.book.specs.Books.{blank};
 ghost use Rattle.exports.specs.Calls.{row_of, told};
 
 use crate::request::{PIECE, WORDS, request_of};
+use book::answer::number_of;
 use rules::plain_number::PlainNumber;
 use seats::seat::Seat;
 use seats::shape::Shape;
@@ -26,10 +27,12 @@ pub(crate) fn make_row(
 {
     let mut table = Table::open(seats, shape);
     let mut words = [0; WORDS];
-    let count = (calls.len() / PIECE).min(numbers.len());
-    for i in 0..count {
-        let request = request_of(&calls[i * PIECE..i * PIECE + PIECE]);
-        numbers[i] = table.call(&PlainNumber, &request, &mut words).number();
+    let (pieces, _) = calls.as_chunks::<PIECE>();
+    let count = pieces.len().min(numbers.len());
+    // written by index: after a `zip` with `iter_mut` a proof knows only how many numbers there are
+    for (i, piece) in pieces[..count].iter().enumerate() {
+        let answer = table.call(&PlainNumber, &request_of(piece), &mut words);
+        numbers[i] = number_of(&answer);
     }
     count
 }

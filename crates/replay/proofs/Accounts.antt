@@ -1,7 +1,8 @@
 -- The theorem over whole runs. Assumes nothing.
-use Rattle.std.proofs.Common.{◌≡◌, ℕ, ◌-◌, ◌*◌, Bool, true, false, not, ltb, List, [], ◌∷◌, length, replicate, Some, None, Option, sym, refl, ap, ◌∙◌, ⊎_elim, arith}
+use Rattle.std.proofs.Common.{◌≡◌, ℕ, ◌-◌, ◌*◌, Bool, true, false, not, ltb, List, [], ◌∷◌, length, replicate, is_ok, None, Ok, Err, Option, sym, refl, ap, ◌∙◌, ⊎_elim, arith}
 use Rattle.std.proofs.lemmas.List.{get_or_past, get_or-replicate, length-replicate}
-use Rattle.std.proofs.lemmas.Bool.{cases_lt}
+use Rattle.std.proofs.lemmas.Bool.{cases_lt, true≢false}
+use Rattle.std.proofs.lemmas.Option.{none-some}
 use Rattle.tallies.specs.Kinds.{Kind}
 use Rattle.rules.specs.Rules.{Meaning}
 use Rattle.seatings.specs.Seatings.{Seating, seatable}
@@ -11,8 +12,8 @@ use Rattle.seats.specs.declared.refusal.Refusal.{Refusal}
 use Rattle.seats.specs.declared.refusal.Refusal.TheVariants.{Words, LongKey, NoAmount, RowLimit, NoSeating, NoNarrowSeating}
 use Rattle.seats.specs.declared.seat.Seat.{Seat}
 use Rattle.seats.specs.Seats.{at, vacant}
-use Rattle.book.specs.declared.answer.Answer.{Answer}
-use Rattle.book.specs.declared.answer.Answer.TheVariants.{Tallied, Refused}
+use Rattle.book.specs.declared.answer.Outcome.{Outcome}
+use Rattle.book.specs.Answers.{Answer}
 use Rattle.book.specs.Books.{Book, Call, Turn, post, reverse, erase, look_up, widen, narrow, fingerprint, too_few, too_long, has_room, has_slack, check, gets, posted, resize, resized, answer, answers, after, after_all}
 use Rattle.table.specs.declared.table.Table.{Table}
 use Rattle.table.specs.Tables.{Keeps, Fresh, first_book}
@@ -31,9 +32,6 @@ module _ {V : Type 0} (k : Kind V) (t : Table V) (fresh : Fresh k t) where
   unfilled : (i : ℕ) → ((at k.empty t.seats.now i).tally ≡ k.empty → ⊥) → ⊥
   unfilled i filled = filled (ap (λ (s : Seat V). s.tally) (all_empty i))
 
-  none_some : (v : V) → None ≡ Some v → ⊥
-  none_some v is = let z : ◌≡◌ {A = ℕ} 0 1 = cc in omega arith
-
   pub fresh_keeps : Keeps k t (first_book t)
   fresh_keeps = record {
     sized = refl;
@@ -41,36 +39,31 @@ module _ {V : Type 0} (k : Kind V) (t : Table V) (fresh : Fresh k t) where
     shows = record {
       gives_back = λ _ _ _ _ filled. absurd (unfilled _ filled);
       told = λ f i s. absurd (unfilled i s.filled);
-      seated = λ f v is. absurd (none_some v is);
+      seated = λ f v is. absurd (none-some v is);
       alone = λ f i j s _. absurd (unfilled i s.filled);
       alike = λ _ _ _ _ _. all_empty _;
       upright = λ f i s _. absurd (unfilled i s.filled);
     };
     rest = λ _ _ _ _ _. all_empty _;
-    values = λ f v is. absurd (none_some v is);
+    values = λ f v is. absurd (none-some v is);
     counted = fresh.none ∙ sym (count_no _);
   }
 
-true_false : (b : Bool) → b ≡ true → b ≡ false → ⊥
-true_false b p q = let z : ◌≡◌ {A = ℕ} 0 1 = cc in omega arith
-
 by_seating : (A : Type 0) (m b range : ℕ) (held : ℕ → Bool) → ExactlyWhen A (seatable m b range held ≡ false) → ExactlyWhen A (Seating m b range held → ⊥)
-by_seating A m b range held (onward, back) = (λ a s. true_false (seatable m b range held) ((seatable_decides m b range held).1 s) (onward a), λ none. back (unseatable m b range held none))
+by_seating A m b range held (onward, back) = (λ a s. true≢false (sym ((seatable_decides m b range held).1 s) ∙ onward a), λ none. back (unseatable m b range held none))
 
 -- a turn that a check may stop, by its answer
 module _ {V : Type 0} where
-  never_tallied : (a : Answer V) (why : Refusal) (v : V) → a ≡ Refused why → a ≡ Tallied v → ⊥
-  never_tallied a why v p q = let z : ◌≡◌ {A = ℕ} 0 1 = cc in omega arith
+  -- an answer that gives something is no refusal
+  never_both : (a : Answer V) (outcome : Outcome V) (why : Refusal) → a ≡ Err why → a ≡ Ok outcome → ⊥
+  never_both a outcome why p q = true≢false (ap is_ok (sym q ∙ p))
 
-  never_sized : (a : Answer V) (b : Book V) (why : Refusal) → a ≡ Refused why → a ≡ (resized b).answer → ⊥
-  never_sized a b why p q = let z : ◌≡◌ {A = ℕ} 0 1 = cc in omega arith
-
-  room_wanting : (b : Book V) (f : ℕ) (v : V) (room : Bool) (a : Answer V) → a ≡ (check b (not room) NoSeating (gets b f v)).answer → ExactlyWhen (a ≡ Refused NoSeating) (room ≡ false)
-  room_wanting b f v true a is = (λ q. absurd (never_tallied a NoSeating v q is), λ q. absurd (true_false true refl q))
+  room_wanting : (b : Book V) (f : ℕ) (v : V) (room : Bool) (a : Answer V) → a ≡ (check b (not room) NoSeating (gets b f v)).answer → ExactlyWhen (a ≡ Err NoSeating) (room ≡ false)
+  room_wanting b f v true a is = (λ q. absurd (never_both a _ NoSeating q is), λ q. absurd (true≢false q))
   room_wanting b f v false a is = (λ _. refl, λ _. is)
 
-  slack_wanting : (b c : Book V) (slack : Bool) (a : Answer V) → a ≡ (check b (not slack) NoNarrowSeating (resized c)).answer → ExactlyWhen (a ≡ Refused NoNarrowSeating) (slack ≡ false)
-  slack_wanting b c true a is = (λ q. absurd (never_sized a c NoNarrowSeating q is), λ q. absurd (true_false true refl q))
+  slack_wanting : (b c : Book V) (slack : Bool) (a : Answer V) → a ≡ (check b (not slack) NoNarrowSeating (resized c)).answer → ExactlyWhen (a ≡ Err NoNarrowSeating) (slack ≡ false)
+  slack_wanting b c true a is = (λ q. absurd (never_both a _ NoNarrowSeating q is), λ q. absurd (true≢false q))
   slack_wanting b c false a is = (λ _. refl, λ _. is)
 
   post_passes : (k : Kind V) (b : Book V) (f : ℕ) (amount : V) (few long real : Bool) (o : Option V) → few ≡ false → long ≡ false → real ≡ true → o ≡ None →

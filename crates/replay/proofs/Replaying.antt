@@ -1,9 +1,9 @@
 -- One call more in a run. Assumes nothing.
 use Rattle.std.proofs.Common.{◌≡◌, ℕ, ◌+◌, ◌<◌, List, [], ◌∷◌, ◌++◌, length, get_or, take, set, sym, refl, ap, ◌∙◌, subst}
-use Rattle.std.proofs.lemmas.List.{take_more, take_more_set}
+use Rattle.std.proofs.lemmas.List.{map-append, take_more, take_more_set}
 use Rattle.tallies.specs.Kinds.{Kind}
 use Rattle.rules.specs.Rules.{Meaning}
-use Rattle.book.specs.declared.answer.Answer.{Answer}
+use Rattle.book.specs.Answers.{Answer}
 use Rattle.book.specs.Books.{Call, answers, after_all}
 use Rattle.table.specs.declared.request.Request.{Request}
 use Rattle.table.specs.declared.table.Table.{Table}
@@ -13,22 +13,10 @@ use Rattle.replay.specs.Runs.{Step, Ran, calls, told, last_table}
 use Rattle.replay.specs.Replayed.{all_asked, Replayed}
 use Rattle.replay.proofs.Accounts.{run_by_book, ends}
 
-asked_more : {V : Type 0} (lent : ℕ) (rs : List (Request V)) (r : Request V) → all_asked lent (rs ++ r ∷ []) ≡ all_asked lent rs ++ asked lent r ∷ []
-asked_more lent [] r = refl
-asked_more lent (q ∷ rs) r = ap (λ l. asked lent q ∷ l) (asked_more lent rs r)
-
 module _ {V : Type 0} (k : Kind V) (rule : Meaning) where
   ran_more : (t : Table V) (ss : List (Step V)) (s : Step V) → Ran k rule t ss → Did k rule (last_table t ss) s.call s.answer s.table → Ran k rule t (ss ++ s ∷ [])
   ran_more t [] s ran did = (did, tt)
   ran_more t (q ∷ ss) s (here, ran) did = (here, ran_more q.table ss s ran did)
-
-  calls_more : (ss : List (Step V)) (s : Step V) → calls (ss ++ s ∷ []) ≡ calls ss ++ s.call ∷ []
-  calls_more [] s = refl
-  calls_more (q ∷ ss) s = ap (λ l. q.call ∷ l) (calls_more ss s)
-
-  told_more : (ss : List (Step V)) (s : Step V) → told (ss ++ s ∷ []) ≡ told ss ++ s.answer ∷ []
-  told_more [] s = refl
-  told_more (q ∷ ss) s = ap (λ l. q.answer ∷ l) (told_more ss s)
 
   last_more : (t : Table V) (ss : List (Step V)) (s : Step V) → last_table t (ss ++ s ∷ []) ≡ s.table
   last_more t [] s = refl
@@ -60,10 +48,10 @@ module _ {V : Type 0} (k : Kind V) (rule : Meaning) where
       let s : Step V = record { call = asked lent r; answer = a; table = v } in
       let ss = run.steps in
       let one_more : all_asked lent (take (i + 1) rs) ≡ all_asked lent (take i rs) ++ asked lent r ∷ [] =
-      ap (all_asked lent) (take_more rs i r low ∙ ap (λ x. take i rs ++ x ∷ []) (sym is)) ∙ asked_more lent (take i rs) r in
+      ap (all_asked lent) (take_more rs i r low ∙ ap (λ x. take i rs ++ x ∷ []) (sym is)) ∙ map-append (asked lent) (take i rs) (r ∷ []) in
       let noted : take (i + 1) ys ≡ take i xs ++ a ∷ [] = ap (take (i + 1)) wrote ∙ take_more_set xs i a room in
       replayed_as t v (ss ++ s ∷ []) _ _
       (ran_more t ss s run.ran (subst (λ x. Did k rule x (asked lent r) a v) (sym run.left) did))
-      (calls_more ss s ∙ ap (λ l. l ++ asked lent r ∷ []) run.made ∙ sym one_more)
-      (told_more ss s ∙ ap (λ l. l ++ a ∷ []) run.answered ∙ sym noted)
+      (map-append (λ (x : Step V). x.call) ss (s ∷ []) ∙ ap (λ l. l ++ asked lent r ∷ []) run.made ∙ sym one_more)
+      (map-append (λ (x : Step V). x.answer) ss (s ∷ []) ∙ ap (λ l. l ++ a ∷ []) run.answered ∙ sym noted)
       (last_more t ss s)

@@ -1,12 +1,11 @@
 -- The theorem over whole runs: a table is held against an account book that is given the same calls. Assumes nothing.
-use Rattle.std.specs.Prelude.{◌≡◌, ◌-◌, true, false, List, None, nat_lt}
+use Rattle.std.specs.Prelude.{◌≡◌, ◌-◌, true, false, List, None, Err, nat_lt}
 use Rattle.tallies.specs.Kinds.{Kind}
 use Rattle.rules.specs.Rules.{Meaning}
 use Rattle.seatings.specs.Seatings.{Seating, also}
 use Rattle.seats.specs.declared.refusal.Refusal.TheVariants.{NoSeating, NoNarrowSeating}
 use Rattle.seats.specs.Seats.{held}
-use Rattle.book.specs.declared.answer.Answer.{Answer}
-use Rattle.book.specs.declared.answer.Answer.TheVariants.{Refused}
+use Rattle.book.specs.Answers.{Answer}
 use Rattle.book.specs.Books.{Book, Call, post, reverse, erase, look_up, widen, narrow, fingerprint, too_few, too_long, answer, after, after_all}
 use Rattle.table.specs.declared.table.Table.{Table}
 use Rattle.table.specs.Tables.{Keeps, Fresh, first_book}
@@ -26,14 +25,14 @@ ExactlyWhen P Q = (P → Q) × (Q → P)
 abbrev pub WantsSeats : {V : Type 0} → Kind V → Meaning → Book V → Call V → Answer V → Type 0
 WantsSeats k rule b (post key amount words) a =
     too_few b words ≡ false → too_long key ≡ false → k.is_amount amount ≡ true → b.entries (fingerprint rule b key) ≡ None →
-    ExactlyWhen (a ≡ Refused NoSeating) (Seating b.size.buckets b.size.rows b.size.range (also (fingerprint rule b key) (held b.entries)) → ⊥)
+    ExactlyWhen (a ≡ Err NoSeating) (Seating b.size.buckets b.size.rows b.size.range (also (fingerprint rule b key) (held b.entries)) → ⊥)
 WantsSeats k rule b (reverse key amount) a = Unit {0}
 WantsSeats k rule b (erase key) a = Unit {0}
 WantsSeats k rule b (look_up key) a = Unit {0}
 WantsSeats k rule b widen a = Unit {0}
 WantsSeats k rule b (narrow words) a =
     too_few b words ≡ false → nat_lt 1 b.size.rows ≡ true →
-    ExactlyWhen (a ≡ Refused NoNarrowSeating) (Seating b.size.buckets (b.size.rows - 1) b.size.range (held b.entries) → ⊥)
+    ExactlyWhen (a ≡ Err NoNarrowSeating) (Seating b.size.buckets (b.size.rows - 1) b.size.range (held b.entries) → ⊥)
 
 -- of any list of calls, in any order and number and turned-away ones too, on a table that was just opened:
 -- every answer is the book's, and the table keeps the book after every call;

@@ -1,8 +1,8 @@
 -- A list of requests, made into a run. Assumes nothing.
-use Rattle.std.specs.Prelude.{◌≡◌, ℕ, List, [], ◌∷◌}
+use Rattle.std.specs.Prelude.{◌≡◌, ℕ, List, map}
 use Rattle.tallies.specs.Kinds.{Kind}
 use Rattle.rules.specs.Rules.{Meaning}
-use Rattle.book.specs.declared.answer.Answer.{Answer}
+use Rattle.book.specs.Answers.{Answer}
 use Rattle.book.specs.Books.{Book, Call, answers, after_all}
 use Rattle.table.specs.declared.request.Request.{Request}
 use Rattle.table.specs.declared.table.Table.{Table}
@@ -12,8 +12,7 @@ use Rattle.replay.specs.Runs.{Step, Ran, calls, told, last_table}
 
 -- the calls that requests ask for, where so many work words are lent
 abbrev pub all_asked : {V : Type 0} → ℕ → List (Request V) → List (Call V)
-all_asked lent [] = []
-all_asked lent (r ∷ rs) = asked lent r ∷ all_asked lent rs
+all_asked lent rs = map (asked lent) rs
 
 -- a run of just these calls, answered just so, led from the table t to the table u; so for every book that t keeps, the answers
 -- are the book's to this list, and u keeps the book after it

@@ -1,8 +1,8 @@
 -- Whole runs of calls on one table. Assumes nothing.
-use Rattle.std.specs.Prelude.{List, [], ◌∷◌}
+use Rattle.std.specs.Prelude.{List, [], ◌∷◌, map}
 use Rattle.tallies.specs.Kinds.{Kind}
 use Rattle.rules.specs.Rules.{Meaning}
-use Rattle.book.specs.declared.answer.Answer.{Answer}
+use Rattle.book.specs.Answers.{Answer}
 use Rattle.book.specs.Books.{Book, Call, after}
 use Rattle.table.specs.declared.table.Table.{Table}
 use Rattle.table.specs.Tables.{Did}
@@ -20,13 +20,11 @@ Ran k rule t (s ∷ ss) = Did k rule t s.call s.answer s.table × Ran k rule s.t
 
 -- the calls of the steps
 abbrev pub calls : {V : Type 0} → List (Step V) → List (Call V)
-calls [] = []
-calls (s ∷ ss) = s.call ∷ calls ss
+calls ss = map (λ s. s.call) ss
 
 -- their answers
 abbrev pub told : {V : Type 0} → List (Step V) → List (Answer V)
-told [] = []
-told (s ∷ ss) = s.answer ∷ told ss
+told ss = map (λ s. s.answer) ss
 
 -- the table after the run
 abbrev pub last_table : {V : Type 0} → Table V → List (Step V) → Table V

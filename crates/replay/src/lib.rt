@@ -1,7 +1,7 @@
 // A list of requests, made one after another on a table, and the theorem over such runs.
 #![tactic(auto)]
 
-ghost use Rattle.std.specs.Prelude.{◌≡◌, ◌<◌, min, length, take, drop, slice_set};
+ghost use Rattle.std.specs.Prelude.{◌≡◌, min, length, take, drop};
 ghost use Rattle.replay.specs.Account.{Account};
 ghost use Rattle.replay.specs.Replayed.{all_asked, Replayed};
 
@@ -10,14 +10,6 @@ use rules::rule::Rule;
 use table::request::Request;
 use table::table::Table;
 use tallies::tally::Tally;
-
-// Writes an answer into its place.
-fn note<T: Copy>(answers: &mut [Answer<T>], i: usize, answer: Answer<T>)
-    requires { i < length answers.old }
-    ensures { answers.new ≡ slice_set answers.old i answer }
-{
-    answers[i] = answer;
-}
 
 // Makes the calls one after another, as many as there is room for answers, writes down each answer, and gives how many calls
 // were made. Of the work words, as many go with a call as its request says.
@@ -35,9 +27,9 @@ pub fn replay<T: Tally + Copy, R: Rule>(
     ensures account { Account T.Tally.kind (R.Rule.meaning rule.now) }
 {
     let count = requests.len().min(answers.len());
-    for i in 0..count {
-        let answer = table.call(rule, &requests[i], words);
-        note(answers, i, answer);
+    // written by index: after a `zip` with `iter_mut` a proof knows only how many answers there are
+    for (i, request) in requests[..count].iter().enumerate() {
+        answers[i] = table.call(rule, request, words);
     }
     count
 }

@@ -1,6 +1,5 @@
 // One record's call, and its line.
 ghost use Rattle.std.specs.Prelude.{◌≡◌, ◌≤◌, length};
-ghost use Rattle.book.specs.Answers.{answer_number};
 ghost use Rattle.book.specs.Books.{Book};
 ghost use Rattle.table.specs.Requests.{asked};
 ghost use Rattle.table.specs.Tables.{Keeps};
@@ -9,7 +8,7 @@ ghost use Rattle.run.specs.Printed.{call_for, figures_after, lent};
 
 use crate::figured::Figured;
 use crate::lines::Line;
-use book::answer::Answer;
+use book::answer::number_of;
 use paper::record::{Call, Record};
 use rules::rule::Rule;
 use table::request::Request;
@@ -37,16 +36,6 @@ fn request_of<'k, T: Figured>(record: &'k Record) -> Request<'k, T>
         Call::LookUp => Request::LookUp { key },
         Call::Widen => Request::Widen,
         Call::Narrow => Request::Narrow { words: WORDS },
-    }
-}
-
-// The number of the refusal, or 0.
-fn number_of<T: Copy>(answer: Answer<T>) -> u8
-    ensures { result ≡ answer_number answer }
-{
-    match answer {
-        Answer::Tallied(_) | Answer::Held(_) | Answer::Sized(_) => 0,
-        Answer::Refused(why) => why.number(),
     }
 }
 
@@ -90,7 +79,7 @@ pub(crate) fn call_line<T: Figured + Copy, R: Rule>(
     let (first, second) = figures_after(table, rule, record);
     Line {
         place,
-        number: u64::from(number_of(answer)),
+        number: u64::from(number_of(&answer)),
         first: u64::from(first),
         second,
     }

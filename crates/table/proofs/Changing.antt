@@ -1,19 +1,17 @@
 -- Calls that change the entry of one fingerprint. Assumes nothing.
-use Rattle.std.proofs.Common.{◌≡◌, ℕ, ◌+◌, ◌*◌, ◌%◌, ◌<◌, ◌≤◌, true, false, eqb, List, length, set, Some, None, Option, sym, refl, ap, ◌∙◌, subst, ⊎_elim, arith}
+use Rattle.std.proofs.Common.{◌≡◌, ℕ, ◌+◌, ◌*◌, ◌%◌, ◌<◌, ◌≤◌, true, false, eqb, List, length, set, is_ok, Some, None, Ok, Option, sym, refl, ap, ◌∙◌, subst, ⊎_elim, arith}
 use Rattle.std.proofs.lemmas.Nat.{mod-mul-add}
 use Rattle.std.proofs.lemmas.List.{get_or-set_same, get_or-set_other}
-use Rattle.std.proofs.lemmas.Bool.{cond-true, cond-false, cases_Bool}
+use Rattle.std.proofs.lemmas.Bool.{cond-true, cond-false, cases_Bool, true≢false}
 use Rattle.tallies.specs.Kinds.{Kind}
 use Rattle.rules.specs.Rules.{Meaning}
-use Rattle.seats.specs.declared.refusal.Refusal.{Refusal}
 use Rattle.seats.specs.declared.seat.Seat.{Seat}
 use Rattle.seats.specs.declared.shape.Shape.{Shape}
 use Rattle.seats.specs.Shapes.{Size, Sound, size}
 use Rattle.seats.specs.Places.{place_of}
 use Rattle.seats.specs.Seats.{Shows, Sits, at, seat, vacant, changed}
 use Rattle.seats.proofs.Shown.{sits_one, shows_filled, shows_emptied}
-use Rattle.book.specs.declared.answer.Answer.{Answer}
-use Rattle.book.specs.declared.answer.Answer.TheVariants.{Tallied, Held, Refused}
+use Rattle.book.specs.declared.answer.Outcome.{Outcome}
 use Rattle.book.specs.Books.{Book, Call, Turn, enter, holding, turn}
 use Rattle.table.specs.declared.table.Table.{Table}
 use Rattle.table.specs.Tables.{Keeps, Did}
@@ -99,23 +97,17 @@ module _ {V : Type 0} (k : Kind V) (t u : Table V) (f : ℕ) (entry : Option V) 
   }
 
   -- the book's turn makes the same change
-  pub record TurnsSo (rule : Meaning) (c : Call V) (a : Answer V) (b : Book V) : Type 0 where
+  pub record TurnsSo (rule : Meaning) (c : Call V) (outcome : Outcome V) (b : Book V) : Type 0 where
     pub changes : Changes
-    pub turns : turn k rule b c ≡ record { answer = a; book = enter b f entry }
+    pub turns : turn k rule b c ≡ record { answer = Ok outcome; book = enter b f entry }
     pub value : (v : V) → entry ≡ Some v → k.is_value v ≡ true
     pub count : u.held ≡ holding (enter b f entry)
 
-  pub did_change : (rule : Meaning) (c : Call V) (a : Answer V) → u.seats.ghost_name ≡ t.seats.ghost_name → ((why : Refusal) → a ≡ Refused why → ⊥) →
-      ((b : Book V) → Keeps k t b → TurnsSo rule c a b) → Did k rule t c a u
-  did_change rule c a lent accepted so = record {
+  pub did_change : (rule : Meaning) (c : Call V) (outcome : Outcome V) → u.seats.ghost_name ≡ t.seats.ghost_name →
+      ((b : Book V) → Keeps k t b → TurnsSo rule c outcome b) → Did k rule t c (Ok outcome) u
+  did_change rule c outcome lent so = record {
     answers = λ b keeps. sym (ap (λ (x : Turn V). x.answer) (so b keeps).turns);
     keeps = λ b keeps. subst (λ (x : Turn V). Keeps k u x.book) (sym (so b keeps).turns) (keeps_changed (so b keeps).changes b keeps (so b keeps).value (so b keeps).count);
-    still = λ why is _. absurd (accepted why is);
+    still = λ why is _. absurd (true≢false (ap is_ok is));
     lent = lent;
   }
-
-pub tallied_accepts : {V : Type 0} (v : V) (why : Refusal) → Tallied v ≡ Refused why → ⊥
-tallied_accepts v why is = let z : ◌≡◌ {A = ℕ} 0 1 = cc in omega arith
-
-pub held_accepts : {V : Type 0} (o : Option V) (why : Refusal) → Held o ≡ Refused why → ⊥
-held_accepts o why is = let z : ◌≡◌ {A = ℕ} 0 1 = cc in omega arith

@@ -1,6 +1,7 @@
 -- Narrowing. Assumes nothing.
-use Rattle.std.proofs.Common.{◌≡◌, ℕ, ◌+◌, ◌-◌, ◌*◌, ◌<◌, ◌≤◌, Bool, true, false, cond, not, eqb, ltb, length, Some, None, Option, sym, refl, ap, ◌∙◌, subst, ⊎_elim, arith}
-use Rattle.std.proofs.lemmas.Bool.{cases_eq, eq-eqb}
+use Rattle.std.proofs.Common.{◌≡◌, ℕ, ◌+◌, ◌-◌, ◌*◌, ◌<◌, ◌≤◌, Bool, true, false, cond, not, eqb, ltb, length, is_ok, Some, None, Ok, Err, Option, sym, refl, ap, ◌∙◌, subst, ⊎_elim, arith}
+use Rattle.std.proofs.lemmas.Bool.{cases_eq, eq-eqb, true≢false}
+use Rattle.std.proofs.lemmas.Option.{none-some, same_Some}
 use Rattle.tallies.specs.Kinds.{Kind}
 use Rattle.rules.specs.Rules.{Meaning}
 use Rattle.seatings.specs.Seatings.{seatable}
@@ -14,16 +15,13 @@ use Rattle.seats.proofs.Sitting.{shape_sound}
 use Rattle.seats.proofs.Seated.{shows_seating}
 use Rattle.narrowing.specs.Narrowed.{stops, narrower, Shifted, Crowded, Cleared}
 use Rattle.book.specs.declared.answer.Rows.{Rows}
-use Rattle.book.specs.declared.answer.Answer.{Answer}
-use Rattle.book.specs.declared.answer.Answer.TheVariants.{Sized, Refused}
+use Rattle.book.specs.declared.answer.Outcome.TheVariants.{Sized}
 use Rattle.book.specs.Books.{Book, Turn, narrow, too_few, has_slack, check, turn, turned_away, resize, resized}
 use Rattle.table.specs.declared.table.Table.{Table}
 use Rattle.table.specs.Tables.{Keeps, Did}
+use Rattle.table.proofs.Reading.{same_refusal}
 use Rattle.table.proofs.Changing.{keeps_same}
 use Rattle.table.proofs.Resizing.{keeps_resized, same_answer}
-
-pub sized_accepts : {V : Type 0} (rows : Rows) (why : Refusal) → ◌≡◌ {A = Answer V} (Sized rows) (Refused why) → ⊥
-sized_accepts rows why is = let n : ◌≡◌ {A = ℕ} 0 1 = cc in omega arith
 
 -- the book's first checks are those of the call
 module _ {V : Type 0} (b : Book V) (rest : Turn V) where
@@ -33,21 +31,15 @@ module _ {V : Type 0} (b : Book V) (rest : Turn V) where
   abbrev bars : Bool → Bool → Bool → Option Refusal
   bars few more fits = cond few (Some Words) (cond (not more) (Some RowLimit) (cond (not fits) (Some Seats) None))
 
-  some_same : (x y : Refusal) → Some x ≡ Some y → x ≡ y
-  some_same x y is = cc
-
-  none_some : (x : Refusal) → None ≡ Some x → ⊥
-  none_some x is = let n : ◌≡◌ {A = ℕ} 0 1 = cc in omega arith
-
   stopped_so : (few more fits : Bool) (why : Refusal) → fits ≡ true → bars few more fits ≡ Some why → checks few more ≡ turned_away b why
-  stopped_so true more fits why fit is = ap (turned_away b) (some_same Words why is)
-  stopped_so false false fits why fit is = ap (turned_away b) (some_same RowLimit why is)
-  stopped_so false true true why fit is = absurd (none_some why is)
-  stopped_so false true false why fit is = absurd (grind arith)
+  stopped_so true more fits why fit is = ap (turned_away b) (same_Some Words why is)
+  stopped_so false false fits why fit is = ap (turned_away b) (same_Some RowLimit why is)
+  stopped_so false true true why fit is = absurd (none-some why is)
+  stopped_so false true false why fit is = absurd (true≢false (sym fit))
 
   passed_so : (few more fits : Bool) → bars few more fits ≡ None → checks few more ≡ rest
-  passed_so true more fits is = absurd (none_some Words (sym is))
-  passed_so false false fits is = absurd (none_some RowLimit (sym is))
+  passed_so true more fits is = absurd (none-some Words (sym is))
+  passed_so false false fits is = absurd (none-some RowLimit (sym is))
   passed_so false true fits is = refl
 
 module _ {V : Type 0} (k : Kind V) (rule : Meaning) (t u : Table V) (words : ℕ) (lent : u.seats.ghost_name ≡ t.seats.ghost_name) (count : u.held ≡ t.held) where
@@ -76,7 +68,7 @@ module _ {V : Type 0} (k : Kind V) (rule : Meaning) (t u : Table V) (words : ℕ
       ∙ ap (λ x. check b (not x) NoNarrowSeating (resized (resize b (b.size.rows - 1)))) is
 
   -- turned away at once
-  pub narrow_stopped : (why : Refusal) → stop ≡ Some why → u.seats.now ≡ t.seats.now → u.shape ≡ t.shape → Did k rule t (narrow words) (Refused why) u
+  pub narrow_stopped : (why : Refusal) → stop ≡ Some why → u.seats.now ≡ t.seats.now → u.shape ≡ t.shape → Did k rule t (narrow words) (Err why) u
   narrow_stopped why is seats shape =
       let turns : (b : Book V) → Keeps k t b → turn k rule b (narrow words) ≡ turned_away b why = λ b keeps.
       stopped_so b (rest b) (too_few b words) (ltb 1 b.size.rows) (eqb (length t.seats.now) (b.size.buckets * b.size.most)) why (fits b keeps) (stop_is b keeps ∙ is) in
@@ -89,7 +81,7 @@ module _ {V : Type 0} (k : Kind V) (rule : Meaning) (t u : Table V) (words : ℕ
 
   -- for want of seats: entries may have moved
   pub narrow_crowded : (why : Refusal) → why ≡ NoNarrowSeating → stop ≡ None → Shifted k.empty t.seats.now u.seats.now z → Crowded k.empty t.seats.now z → length u.seats.now ≡ length t.seats.now → u.shape ≡ t.shape →
-      Did k rule t (narrow words) (Refused why) u
+      Did k rule t (narrow words) (Err why) u
   narrow_crowded why so goes shifted crowded long shape =
       let turns : (b : Book V) → Keeps k t b → turn k rule b (narrow words) ≡ turned_away b why = λ b keeps.
       by_slack b false keeps goes (slack_is b keeps ∙ unseatable z.buckets (z.rows - 1) z.range (held b.entries) (crowded b.entries keeps.shows)) ∙ ap (turned_away b) (sym so) in
@@ -105,17 +97,14 @@ module _ {V : Type 0} (k : Kind V) (rule : Meaning) (t u : Table V) (words : ℕ
       record {
         answers = λ b keeps. sym (ap (λ (x : Turn V). x.answer) (turns b keeps));
         keeps = λ b keeps. subst (λ (x : Turn V). Keeps k u x.book) (sym (turns b keeps)) (kept b keeps);
-        still = λ other is apart. absurd (apart (refused_same other is));
+        still = λ other is apart. absurd (apart (sym (same_refusal why other is) ∙ so));
         lent = lent;
       }
-    where
-      refused_same : (other : Refusal) → ◌≡◌ {A = Answer V} (Refused why) (Refused other) → other ≡ NoNarrowSeating
-      refused_same other is = cc
 
   -- the last row is cleared
-  pub narrow_done : stop ≡ None → size u.shape ≡ narrower z → Cleared k.empty t.seats.now u.seats.now z → length u.seats.now ≡ length t.seats.now →
-      Did k rule t (narrow words) (Sized (record { rows = u.shape.rows; held = u.held })) u
-  narrow_done goes shape cleared long =
+  pub narrow_done : (n : Rows) → n ≡ record { rows = u.shape.rows; held = u.held } → stop ≡ None → size u.shape ≡ narrower z → Cleared k.empty t.seats.now u.seats.now z → length u.seats.now ≡ length t.seats.now →
+      Did k rule t (narrow words) (Ok (Sized n)) u
+  narrow_done n is goes shape cleared long =
       let buckets : u.shape.buckets ≡ t.shape.buckets = ap (λ (y : Size). y.buckets) shape in
       let most : u.shape.most ≡ t.shape.most = ap (λ (y : Size). y.most) shape in
       let fewer : u.shape.rows ≡ t.shape.rows - 1 = ap (λ (y : Size). y.rows) shape in
@@ -125,7 +114,7 @@ module _ {V : Type 0} (k : Kind V) (rule : Meaning) (t u : Table V) (words : ℕ
       by_slack b true keeps goes
       (slack_is b keeps ∙ (seatable_decides z.buckets (z.rows - 1) z.range (held b.entries)).1 (shows_seating k.empty sound u.seats.now b.entries (cleared.shows b.entries keeps.shows))) in
       record {
-        answers = λ b keeps. same_answer k t u buckets most count b (b.size.rows - 1) keeps (rows b keeps) ∙ sym (ap (λ (x : Turn V). x.answer) (turns b keeps));
+        answers = λ b keeps. ap (λ x. Ok (Sized x)) is ∙ same_answer k t u buckets most count b (b.size.rows - 1) keeps (rows b keeps) ∙ sym (ap (λ (x : Turn V). x.answer) (turns b keeps));
         keeps = λ b keeps.
             subst (λ (x : Turn V). Keeps k u x.book) (sym (turns b keeps))
             (subst (λ n. Keeps k u (resize b n)) (rows b keeps)
@@ -138,6 +127,6 @@ module _ {V : Type 0} (k : Kind V) (rule : Meaning) (t u : Table V) (words : ℕ
             let further : t.shape.rows ≤ row = omega arith in
             cleared.beyond bucket row low further high ∙ keeps.rest bucket row low further high)
             (cases_eq row (t.shape.rows - 1)))));
-        still = λ why is _. absurd (sized_accepts (record { rows = u.shape.rows; held = u.held }) why is);
+        still = λ why is _. absurd (true≢false (ap is_ok is));
         lent = lent;
       }

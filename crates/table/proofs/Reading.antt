@@ -1,50 +1,54 @@
 -- Calls that leave the table as it is, and what the seats say of a fingerprint. Assumes nothing.
-use Rattle.std.proofs.Common.{◌≡◌, ℕ, ◌<◌, Bool, true, false, ◌⊎◌, List, length, Some, None, Option, sym, refl, ap, ◌∙◌, subst, inl, inr, arith}
+use Rattle.std.proofs.Common.{◌≡◌, ℕ, ◌<◌, Bool, false, List, length, Some, None, Ok, Err, Option, Result, MatchOption, is_ok, ok_or, unwrap_or, sym, refl, ap, ◌∙◌, subst}
+use Rattle.std.specs.Result.{result_err}
+use Rattle.std.proofs.lemmas.Bool.{true≢false}
+use Rattle.std.proofs.lemmas.Option.{MatchOption-at_some, MatchOption-at_none}
 use Rattle.tallies.specs.Kinds.{Kind}
 use Rattle.rules.specs.Rules.{Meaning}
 use Rattle.seats.specs.declared.refusal.Refusal.{Refusal}
 use Rattle.seats.specs.declared.refusal.Refusal.TheVariants.{LongKey}
 use Rattle.seats.specs.Shapes.{Size, size}
-use Rattle.seats.specs.Seats.{Shows, Sits, at}
+use Rattle.seats.specs.Seats.{Shows, at}
 use Rattle.seats.proofs.Sitting.{shape_sound, filled_inside}
 use Rattle.seats.proofs.Shown.{not_shown}
-use Rattle.book.specs.declared.answer.Answer.{Answer}
-use Rattle.book.specs.declared.answer.Answer.TheVariants.{Held, Refused}
+use Rattle.book.specs.declared.answer.Outcome.TheVariants.{Held}
+use Rattle.book.specs.Answers.{Answer}
 use Rattle.book.specs.Books.{Book, Call, Turn, look_up, fingerprint, too_long, check, turn}
 use Rattle.table.specs.declared.table.Table.{Table}
-use Rattle.table.specs.Tables.{Keeps, Did, is_early}
+use Rattle.table.specs.Tables.{Keeps, Did}
+use Rattle.table.specs.Seated.{Keyed, SitsIn}
 
 -- a check that the call passes
 pub passed : {V : Type 0} (b : Book V) (test : Bool) (why : Refusal) (rest : Turn V) → test ≡ false → check b test why rest ≡ rest
 passed b test why rest is = ap (λ x. check b x why rest) is
 
--- work words that only a late refusal leaves changed are spared by the early ones
-pub spared : {V : Type 0} (late : Refusal) → is_early late ≡ false → (bars : Option Refusal) (why : Refusal) (Same : Type 0) → (bars ≡ Some why) ⊎ ((bars ≡ None) × (why ≡ late)) → ((bars ≡ None → ⊥) → Same) →
-    (other : Refusal) → ◌≡◌ {A = Answer V} (Refused why) (Refused other) → is_early other ≡ true → Same
-spared late is-late bars why Same (inl barred) kept other is early = kept (λ none. let z : ◌≡◌ {A = ℕ} 0 1 = cc in absurd (omega arith))
-spared {V} late is-late bars why Same (inr (none, same)) kept other is early =
-    let never : false ≡ true = sym is-late ∙ ap is_early (sym same ∙ refused_same why other is) ∙ early in
-    absurd (grind arith)
-  where
-    refused_same : (x y : Refusal) → ◌≡◌ {A = Answer V} (Refused x) (Refused y) → x ≡ y
-    refused_same x y e = cc
+pub same_refusal : {V : Type 0} (x y : Refusal) → ◌≡◌ {A = Answer V} (Err x) (Err y) → x ≡ y
+same_refusal x y is = cc
+
+-- a value is lacking, and the refusal is the one named for that
+pub lacking : {X : Type 0} (o : Option X) (why named : Refusal) → ◌≡◌ {A = Result X Refusal} (Err why) (ok_or o named) → (o ≡ None) × (why ≡ named)
+lacking None why named is = (refl, ap (λ r. unwrap_or (result_err r) why) is)
+lacking (Some x) why named is = absurd (true≢false (sym (ap is_ok is)))
 
 module _ {V : Type 0} (k : Kind V) where
-  -- f sits in the seat i of the table, or nowhere
-  abbrev pub SitsIn : Table V → ℕ → ℕ → Type 0
-  SitsIn t f i = Sits k.empty t.seats.now (size t.shape) f i
-
   -- what the seats say of f, whatever entries they show
   abbrev pub Reads : Table V → ℕ → Option V → Type 0
   Reads t f entry = (entries : ℕ → Option V) → Shows k.empty t.seats.now (size t.shape) entries → entries f ≡ entry
 
-  pub reads_none : (t : Table V) (f : ℕ) → ((i : ℕ) → SitsIn t f i → ⊥) → Reads t f None
+  pub reads_none : (t : Table V) (f : ℕ) → ((i : ℕ) → SitsIn k t f i → ⊥) → Reads t f None
   reads_none t f nowhere entries shows = not_shown k.empty (shape_sound t.shape) t.seats.now entries f shows nowhere
 
-  pub reads_some : (t : Table V) (f i : ℕ) (v : V) → SitsIn t f i → v ≡ (at k.empty t.seats.now i).tally → Reads t f (Some v)
+  pub reads_some : (t : Table V) (f i : ℕ) (v : V) → SitsIn k t f i → v ≡ (at k.empty t.seats.now i).tally → Reads t f (Some v)
   reads_some t f i v sits is entries shows = shows.told f i sits ∙ ap Some (sym is)
 
-  pub sits_inside : (t : Table V) (f i : ℕ) → SitsIn t f i → i < length t.seats.now
+  -- by what looking for f found
+  pub reads_nowhere : (t : Table V) (f : ℕ) (o : Option ℕ) → o ≡ None → MatchOption o ((i : ℕ) → SitsIn k t f i → ⊥) (λ i. SitsIn k t f i) → Reads t f None
+  reads_nowhere t f o none looked = reads_none t f (MatchOption-at_none ((i : ℕ) → SitsIn k t f i → ⊥) (λ i. SitsIn k t f i) none looked)
+
+  pub sits_found : (t : Table V) (f : ℕ) (o : Option ℕ) (i : ℕ) → o ≡ Some i → MatchOption o ((j : ℕ) → SitsIn k t f j → ⊥) (λ j. SitsIn k t f j) → SitsIn k t f i
+  sits_found t f o i some looked = MatchOption-at_some ((j : ℕ) → SitsIn k t f j → ⊥) (λ j. SitsIn k t f j) i some looked
+
+  pub sits_inside : (t : Table V) (f i : ℕ) → SitsIn k t f i → i < length t.seats.now
   sits_inside t f i sits = filled_inside k.empty t.seats.now i sits.filled
 
   module _ (rule : Meaning) where
@@ -57,17 +61,15 @@ module _ {V : Type 0} (k : Kind V) where
       lent = refl;
     }
 
-    -- the number that the table asks its rule for is the book's fingerprint of the key
-    abbrev pub Asked : Table V → List ℕ → ℕ → Type 0
-    Asked t key f = f ≡ rule key (size t.shape).range
+module _ {V : Type 0} (k : Kind V) {rule : Meaning} {t : Table V} {key : List ℕ} {f : ℕ} (keyed : Keyed rule t key f) where
+  -- the number that the table asks its rule for is the book's fingerprint of the key
+  pub same_fingerprint : (b : Book V) → Keeps k t b → fingerprint rule b key ≡ f
+  same_fingerprint b keeps = ap (λ (z : Size). rule key z.range) keeps.sized ∙ sym keyed.asked
 
-    pub same_fingerprint : (t : Table V) (b : Book V) (key : List ℕ) (f : ℕ) → Asked t key f → Keeps k t b → fingerprint rule b key ≡ f
-    same_fingerprint t b key f is keeps = ap (λ (z : Size). rule key z.range) keeps.sized ∙ sym is
+  pub same_entry : (b : Book V) (entry : Option V) → Reads k t f entry → Keeps k t b → b.entries (fingerprint rule b key) ≡ entry
+  same_entry b entry reads keeps = ap b.entries (same_fingerprint b keeps) ∙ reads b.entries keeps.shows
 
-    pub same_entry : (t : Table V) (b : Book V) (key : List ℕ) (f : ℕ) (entry : Option V) → Asked t key f → Reads t f entry → Keeps k t b → b.entries (fingerprint rule b key) ≡ entry
-    same_entry t b key f entry is reads keeps = ap b.entries (same_fingerprint t b key f is keeps) ∙ reads b.entries keeps.shows
-
-    pub looked_up : (t : Table V) (key : List ℕ) (f : ℕ) (entry : Option V) → too_long key ≡ false → Asked t key f → Reads t f entry → Did k rule t (look_up key) (Held entry) t
-    looked_up t key f entry short is reads =
-        unmoved t (look_up key) (Held entry)
-        (λ b keeps. passed b (too_long key) LongKey _ short ∙ ap (λ x. record { answer = Held x; book = b }) (same_entry t b key f entry is reads keeps))
+  pub looked_up : (entry : Option V) → Reads k t f entry → Did k rule t (look_up key) (Ok (Held entry)) t
+  looked_up entry reads =
+      unmoved k rule t (look_up key) (Ok (Held entry))
+      (λ b keeps. passed b (too_long key) LongKey _ keyed.short ∙ ap (λ x. record { answer = Ok (Held x); book = b }) (same_entry b entry reads keeps))

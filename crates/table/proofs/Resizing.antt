@@ -1,5 +1,5 @@
 -- The same seats with more rows in use, or fewer. Assumes nothing.
-use Rattle.std.proofs.Common.{◌≡◌, ℕ, ◌+◌, ◌-◌, ◌*◌, ◌<◌, ◌≤◌, Bool, true, not, ltb, length, sym, ap, ◌∙◌, subst, arith}
+use Rattle.std.proofs.Common.{◌≡◌, ℕ, ◌+◌, ◌-◌, ◌*◌, ◌<◌, ◌≤◌, Bool, true, not, ltb, length, Ok, sym, ap, ◌∙◌, subst, arith}
 use Rattle.std.proofs.lemmas.Bool.{lt-ltb}
 use Rattle.tallies.specs.Kinds.{Kind}
 use Rattle.rules.specs.Rules.{Meaning}
@@ -8,7 +8,7 @@ use Rattle.seats.specs.Shapes.{Size, size, with_rows}
 use Rattle.seats.specs.Seats.{Shows, at, vacant}
 use Rattle.narrowing.proofs.Resized.{shows_resized}
 use Rattle.book.specs.declared.answer.Rows.{Rows}
-use Rattle.book.specs.declared.answer.Answer.TheVariants.{Sized}
+use Rattle.book.specs.declared.answer.Outcome.TheVariants.{Sized}
 use Rattle.book.specs.Books.{Book, Turn, widen, check, turn, resize, resized}
 use Rattle.table.specs.declared.table.Table.{Table}
 use Rattle.table.specs.Tables.{Keeps, Did}
@@ -35,8 +35,8 @@ module _ {V : Type 0} (k : Kind V) (t u : Table V) (buckets : u.shape.buckets �
   }
 
   -- the answer is the book's, where its rows are
-  pub same_answer : (b : Book V) (rows : ℕ) → Keeps k t b → u.shape.rows ≡ rows → Sized (record { rows = u.shape.rows; held = u.held }) ≡ (resized (resize b rows)).answer
-  same_answer b rows keeps is = λ i. Sized (record { rows = is i; held = (count ∙ keeps.counted) i })
+  pub same_answer : (b : Book V) (rows : ℕ) → Keeps k t b → u.shape.rows ≡ rows → Ok (Sized (record { rows = u.shape.rows; held = u.held })) ≡ (resized (resize b rows)).answer
+  same_answer b rows keeps is = λ i. Ok (Sized (record { rows = is i; held = (count ∙ keeps.counted) i }))
 
 module _ {V : Type 0} (k : Kind V) (rule : Meaning) (t : Table V) where
   widens : (b : Book V) (room : Bool) → room ≡ true → check b (not room) RowLimit (resized (resize b (b.size.rows + 1))) ≡ resized (resize b (b.size.rows + 1))
@@ -49,13 +49,13 @@ module _ {V : Type 0} (k : Kind V) (rule : Meaning) (t : Table V) where
   most_are b keeps = ap (λ (z : Size). z.most) keeps.sized
 
   pub widened : (u : Table V) (n : Rows) → n ≡ record { rows = u.shape.rows; held = u.held } → t.shape.rows < t.shape.most → u.seats.now ≡ t.seats.now → u.shape.buckets ≡ t.shape.buckets → u.shape.most ≡ t.shape.most →
-      u.shape.rows ≡ t.shape.rows + 1 → u.held ≡ t.held → u.seats.ghost_name ≡ t.seats.ghost_name → Did k rule t widen (Sized n) u
+      u.shape.rows ≡ t.shape.rows + 1 → u.held ≡ t.held → u.seats.ghost_name ≡ t.seats.ghost_name → Did k rule t widen (Ok (Sized n)) u
   widened u n is room seats buckets most more count lent =
       let rows : (b : Book V) → Keeps k t b → u.shape.rows ≡ b.size.rows + 1 = λ b keeps. more ∙ ap (λ n. n + 1) (sym (rows_are b keeps)) in
       let turns : (b : Book V) → Keeps k t b → turn k rule b widen ≡ resized (resize b (b.size.rows + 1)) = λ b keeps.
       widens b (ltb b.size.rows b.size.most) (lt-ltb b.size.rows b.size.most (omega (arith, rows_are b keeps, most_are b keeps))) in
       record {
-        answers = λ b keeps. ap Sized is ∙ same_answer k t u buckets most count b (b.size.rows + 1) keeps (rows b keeps) ∙ sym (ap (λ (x : Turn V). x.answer) (turns b keeps));
+        answers = λ b keeps. ap (λ x. Ok (Sized x)) is ∙ same_answer k t u buckets most count b (b.size.rows + 1) keeps (rows b keeps) ∙ sym (ap (λ (x : Turn V). x.answer) (turns b keeps));
         keeps = λ b keeps.
             subst (λ (x : Turn V). Keeps k u x.book) (sym (turns b keeps))
             (subst (λ n. Keeps k u (resize b n)) (rows b keeps)

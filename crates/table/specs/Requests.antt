@@ -1,6 +1,6 @@
 -- The book's call that a request asks for, and what it does to the work words. Assumes nothing.
 use Rattle.std.specs.Prelude.{◌≡◌, ℕ, min, List, length, drop}
-use Rattle.book.specs.declared.answer.Answer.{Answer}
+use Rattle.book.specs.Answers.{Answer}
 use Rattle.book.specs.Books.{Call, post, reverse, erase, look_up, widen, narrow}
 use Rattle.table.specs.declared.request.Request.{Request}
 use Rattle.table.specs.declared.request.Request.TheVariants.{Post, Reverse, Erase, LookUp, Widen, Narrow}

@@ -1,13 +1,12 @@
 -- When a table keeps a book, and what a call has done. Assumes nothing.
-use Rattle.std.specs.Prelude.{◌≡◌, ℕ, ◌+◌, ◌*◌, ◌<◌, ◌≤◌, Bool, true, false, List, length, replicate, Some, ◌≢◌}
+use Rattle.std.specs.Prelude.{◌≡◌, ℕ, ◌+◌, ◌*◌, ◌<◌, ◌≤◌, Bool, true, false, List, length, replicate, Some, Err, ◌≢◌}
 use Rattle.tallies.specs.Kinds.{Kind}
 use Rattle.rules.specs.Rules.{Meaning}
 use Rattle.seats.specs.declared.refusal.Refusal.{Refusal}
 use Rattle.seats.specs.declared.refusal.Refusal.TheVariants.{Buckets, Rows, Seats, Words, LongKey, NoAmount, Ceiling, NoSeating, NotHeld, NotTakenBack, RowLimit, NoNarrowSeating}
 use Rattle.seats.specs.Shapes.{size}
 use Rattle.seats.specs.Seats.{Shows, at, vacant}
-use Rattle.book.specs.declared.answer.Answer.{Answer}
-use Rattle.book.specs.declared.answer.Answer.TheVariants.{Refused}
+use Rattle.book.specs.Answers.{Answer}
 use Rattle.book.specs.Books.{Book, Call, blank, holding, answer, after}
 use Rattle.table.specs.declared.table.Table.{Table}
 
@@ -35,7 +34,7 @@ first_book t = blank (size t.shape)
 pub record Did {V : Type 0} (k : Kind V) (rule : Meaning) (t : Table V) (c : Call V) (a : Answer V) (u : Table V) : Type 0 where
   pub answers : (b : Book V) → Keeps k t b → a ≡ answer k rule b c
   pub keeps : (b : Book V) → Keeps k t b → Keeps k u (after k rule b c)
-  pub still : (why : Refusal) → a ≡ Refused why → (why ≢ NoNarrowSeating) → u.seats.now ≡ t.seats.now
+  pub still : (why : Refusal) → a ≡ Err why → (why ≢ NoNarrowSeating) → u.seats.now ≡ t.seats.now
   pub lent : u.seats.ghost_name ≡ t.seats.ghost_name
 
 -- the refusals that come before the work words are used
@@ -55,4 +54,4 @@ is_early NoNarrowSeating = false
 
 -- such a refusal leaves the work words as they were
 abbrev pub SparesWords : {V : Type 0} → Answer V → List ℕ → List ℕ → Type 0
-SparesWords a words words' = (why : Refusal) → a ≡ Refused why → is_early why ≡ true → words' ≡ words
+SparesWords a words words' = (why : Refusal) → a ≡ Err why → is_early why ≡ true → words' ≡ words

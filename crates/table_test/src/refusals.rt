@@ -1,6 +1,7 @@
-use crate::support::{number_of, stale};
+use crate::support::stale;
 use rules::fnv::Fnv;
 use rules::plain_number::PlainNumber;
+use seats::refusal::Refusal;
 use seats::seat::Seat;
 use seats::shape::Shape;
 use std::test::Fail;
@@ -8,64 +9,76 @@ use table::table::Table;
 use tallies::replicas::Replicas;
 use tallies::traffic::Traffic;
 
+// The number of the refusal, if the call is refused.
+fn refused<X: Drop>(outcome: Result<X, Refusal>) -> Option<u8> {
+    outcome.err().map(|refusal| refusal.number())
+}
+
+// The shape of these numbers, which every test here takes to be sound.
+pub fn sound_shape(buckets: u32, most: u32, rows: u32, seats: usize) -> Result<Shape, Fail> {
+    Shape::check(buckets, most, rows, seats).map_err(|_| Fail::new("the shape is refused"))
+}
+
 #[test]
 fn keys_of_64_bytes_pass_and_65_do_not(rt: HostRuntime) -> Result<(), Fail> {
     let mut seats = [stale(); 4];
-    let Ok(shape) = Shape::check(2, 2, 1, seats.len()) else {
-        return Err(Fail::new("the shape is refused"));
-    };
+    let shape = sound_shape(2, 2, 1, seats.len())?;
     let mut table = Table::open(&mut seats, shape);
     let mut words = [9u32; 4];
     assert_eq!(rt;
-        number_of(table.post(&Fnv, &[1; 65], Replicas(1), &mut words)),
-        5
+        refused(table.post(&Fnv, &[1; 65], Replicas(1), &mut words)),
+        Some(5)
     );
-    assert_eq!(rt; number_of(table.reverse(&Fnv, &[1; 65], Replicas(1))), 5);
-    assert_eq!(rt; number_of(table.erase(&Fnv, &[1; 65])), 5);
-    assert_eq!(rt; number_of(table.look_up(&Fnv, &[1; 65])), 5);
     assert_eq!(rt;
-        number_of(table.post(&Fnv, &[1; 64], Replicas(1), &mut words)),
-        0
+        refused(table.reverse(&Fnv, &[1; 65], Replicas(1))),
+        Some(5)
+    );
+    assert_eq!(rt; refused(table.erase(&Fnv, &[1; 65])), Some(5));
+    assert_eq!(rt; refused(table.look_up(&Fnv, &[1; 65])), Some(5));
+    assert_eq!(rt;
+        refused(table.post(&Fnv, &[1; 64], Replicas(1), &mut words)),
+        None
     );
     assert_eq!(rt; words, [9; 4]);
-    assert_eq!(rt; number_of(table.reverse(&Fnv, &[1; 64], Replicas(2))), 10);
-    assert_eq!(rt; number_of(table.erase(&Fnv, &[1; 64])), 0);
-    assert_eq!(rt; number_of(table.erase(&Fnv, &[1; 64])), 9);
-    assert_eq!(rt; number_of(table.look_up(&Fnv, &[1; 64])), 0);
+    assert_eq!(rt;
+        refused(table.reverse(&Fnv, &[1; 64], Replicas(2))),
+        Some(10)
+    );
+    assert_eq!(rt; refused(table.erase(&Fnv, &[1; 64])), None);
+    assert_eq!(rt; refused(table.erase(&Fnv, &[1; 64])), Some(9));
+    assert_eq!(rt; refused(table.look_up(&Fnv, &[1; 64])), None);
     Ok(())
 }
 
 #[test]
 fn early_refusals_leave_seats_and_words(rt: HostRuntime) -> Result<(), Fail> {
     let mut seats = [stale(); 4];
-    let Ok(shape) = Shape::check(2, 2, 1, seats.len()) else {
-        return Err(Fail::new("the shape is refused"));
-    };
+    let shape = sound_shape(2, 2, 1, seats.len())?;
     let mut few = [9u32; 3];
     let mut words = [9u32; 4];
     {
         let mut table = Table::open(&mut seats, shape);
         assert_eq!(rt;
-            number_of(table.post(&PlainNumber, &[1; 65], Replicas(0), &mut few)),
-            4
+            refused(table.post(&PlainNumber, &[1; 65], Replicas(0), &mut few)),
+            Some(4)
         );
         assert_eq!(rt;
-            number_of(table.post(&PlainNumber, &[1; 65], Replicas(0), &mut words)),
-            5
+            refused(table.post(&PlainNumber, &[1; 65], Replicas(0), &mut words)),
+            Some(5)
         );
         assert_eq!(rt;
-            number_of(table.post(&PlainNumber, &[1], Replicas(0), &mut words)),
-            6
+            refused(table.post(&PlainNumber, &[1], Replicas(0), &mut words)),
+            Some(6)
         );
-        assert_eq!(rt; number_of(table.narrow(&mut few)), 4);
-        assert_eq!(rt; number_of(table.narrow(&mut words)), 11);
+        assert_eq!(rt; refused(table.narrow(&mut few)), Some(4));
+        assert_eq!(rt; refused(table.narrow(&mut words)), Some(11));
         assert_eq!(rt;
-            number_of(table.reverse(&PlainNumber, &[1], Replicas(0))),
-            6
+            refused(table.reverse(&PlainNumber, &[1], Replicas(0))),
+            Some(6)
         );
         assert_eq!(rt;
-            number_of(table.reverse(&PlainNumber, &[1], Replicas(1))),
-            9
+            refused(table.reverse(&PlainNumber, &[1], Replicas(1))),
+            Some(9)
         );
     }
     assert_eq!(rt; few, [9; 3]);
@@ -98,23 +111,21 @@ fn a_ceiling_refuses_and_leaves_the_tally(rt: HostRuntime) -> Result<(), Fail> {
         octets: 1,
     };
     let mut seats = [blank; 2];
-    let Ok(shape) = Shape::check(2, 1, 1, seats.len()) else {
-        return Err(Fail::new("the shape is refused"));
-    };
+    let shape = sound_shape(2, 1, 1, seats.len())?;
     let mut table = Table::open(&mut seats, shape);
     let mut words = [0u32; 4];
     assert_eq!(rt;
-        number_of(table.post(&PlainNumber, &[1], most, &mut words)),
-        0
+        refused(table.post(&PlainNumber, &[1], most, &mut words)),
+        None
     );
     assert_eq!(rt;
-        number_of(table.post(&PlainNumber, &[1], one, &mut words)),
-        7
+        refused(table.post(&PlainNumber, &[1], one, &mut words)),
+        Some(7)
     );
     let Ok(Some(held)) = table.look_up(&PlainNumber, &[1]) else {
         return Err(Fail::new("the tally is gone"));
     };
     assert!(rt; held.packets == 1 && held.octets == 1_000_000_000_000_000);
-    assert_eq!(rt; number_of(table.widen()), 11);
+    assert_eq!(rt; refused(table.widen()), Some(11));
     Ok(())
 }

@@ -1,9 +1,9 @@
+use crate::refusals::sound_shape;
 use crate::support::stale;
-use book::answer::{Answer, Rows};
+use book::answer::{Outcome, Rows};
 use replay::replay;
 use rules::plain_number::PlainNumber;
 use seats::refusal::Refusal;
-use seats::shape::Shape;
 use std::test::Fail;
 use table::request::Request;
 use table::table::Table;
@@ -12,9 +12,7 @@ use tallies::replicas::Replicas;
 #[test]
 fn nine_calls_answer_as_worked_by_hand(rt: HostRuntime) -> Result<(), Fail> {
     let mut seats = [stale(); 6];
-    let Ok(shape) = Shape::check(3, 2, 1, seats.len()) else {
-        return Err(Fail::new("the shape is refused"));
-    };
+    let shape = sound_shape(3, 2, 1, seats.len())?;
     let mut table = Table::open(&mut seats, shape);
     let requests = [
         Request::Post {
@@ -47,7 +45,7 @@ fn nine_calls_answer_as_worked_by_hand(rt: HostRuntime) -> Result<(), Fail> {
         Request::LookUp { key: &[7] },
     ];
     let mut words = [3u32; 6];
-    let mut answers = [Answer::Held(None); 9];
+    let mut answers = [Ok(Outcome::Held(None)); 9];
     let made = replay(
         &mut table,
         &PlainNumber,
@@ -56,14 +54,14 @@ fn nine_calls_answer_as_worked_by_hand(rt: HostRuntime) -> Result<(), Fail> {
         &mut answers,
     );
     assert_eq!(rt; made, 9);
-    assert!(rt; answers[0] == Answer::Tallied(Replicas(1)));
-    assert!(rt; answers[1] == Answer::Tallied(Replicas(2)));
-    assert!(rt; answers[2] == Answer::Refused(Refusal::NoSeating));
-    assert!(rt; answers[3] == Answer::Sized(Rows { rows: 2, held: 2 }));
-    assert!(rt; answers[4] == Answer::Tallied(Replicas(1)));
-    assert!(rt; answers[5] == Answer::Refused(Refusal::NoNarrowSeating));
-    assert!(rt; answers[6] == Answer::Held(None));
-    assert!(rt; answers[7] == Answer::Sized(Rows { rows: 1, held: 2 }));
-    assert!(rt; answers[8] == Answer::Held(Some(Replicas(1))));
+    assert!(rt; answers[0] == Ok(Outcome::Tallied(Replicas(1))));
+    assert!(rt; answers[1] == Ok(Outcome::Tallied(Replicas(2))));
+    assert!(rt; answers[2] == Err(Refusal::NoSeating));
+    assert!(rt; answers[3] == Ok(Outcome::Sized(Rows { rows: 2, held: 2 })));
+    assert!(rt; answers[4] == Ok(Outcome::Tallied(Replicas(1))));
+    assert!(rt; answers[5] == Err(Refusal::NoNarrowSeating));
+    assert!(rt; answers[6] == Ok(Outcome::Held(None)));
+    assert!(rt; answers[7] == Ok(Outcome::Sized(Rows { rows: 1, held: 2 })));
+    assert!(rt; answers[8] == Ok(Outcome::Held(Some(Replicas(1)))));
     Ok(())
 }

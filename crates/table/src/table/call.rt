@@ -5,7 +5,7 @@ ghost use Rattle.table.specs.Requests.{asked, WordsAfter};
 
 use super::Table;
 use crate::request::Request;
-use book::answer::Answer;
+use book::answer::{Answer, Outcome};
 use rules::rule::Rule;
 use tallies::tally::Tally;
 
@@ -27,15 +27,24 @@ impl<T: Tally + Copy> Table<'_, T> {
                 words: many,
             } => {
                 let some = words.len().min(*many);
-                Answer::of_tally(self.post(rule, key, *amount, &mut words[0..some]))
+                let posted = self.post(rule, key, *amount, &mut words[0..some]);
+                posted.map(Outcome::Tallied)
             }
-            Request::Reverse { key, amount } => Answer::of_held(self.reverse(rule, key, *amount)),
-            Request::Erase { key } => Answer::of_tally(self.erase(rule, key)),
-            Request::LookUp { key } => Answer::of_held(self.look_up(rule, key)),
-            Request::Widen => Answer::of_rows(self.widen()),
+            Request::Reverse { key, amount } => {
+                let reversed = self.reverse(rule, key, *amount);
+                reversed.map(Outcome::Held)
+            }
+            Request::Erase { key } => self.erase(rule, key).map(Outcome::Tallied),
+            Request::LookUp { key } => self.look_up(rule, key).map(Outcome::Held),
+            // no `map` here: the borrow checker follows it only where the function's argument names the `T` of its result
+            Request::Widen => {
+                let widened = self.widen()?;
+                Ok(Outcome::Sized(widened))
+            }
             Request::Narrow { words: many } => {
                 let some = words.len().min(*many);
-                Answer::of_rows(self.narrow(&mut words[0..some]))
+                let narrowed = self.narrow(&mut words[0..some])?;
+                Ok(Outcome::Sized(narrowed))
             }
         }
     }

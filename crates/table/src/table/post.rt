@@ -1,11 +1,11 @@
 // Posting.
-ghost use Rattle.std.specs.Prelude.{length, Err};
-ghost use Rattle.book.specs.Answers.{of_tally};
+ghost use Rattle.std.specs.Prelude.{length};
+ghost use Rattle.book.specs.declared.answer.Outcome.TheVariants.{Tallied};
+ghost use Rattle.book.specs.Answers.{told_as};
 ghost use Rattle.book.specs.Books.{post as posting};
 ghost use Rattle.table.specs.Tables.{Did, SparesWords};
 
 use super::Table;
-use super::reads::LONGEST;
 use moves::place::place;
 use rules::rule::Rule;
 use seats::refusal::Refusal;
@@ -21,27 +21,22 @@ impl<T: Tally + Copy> Table<'_, T> {
         amount: T,
         words: &mut [u32],
     ) -> Result<T, Refusal>
-        ensures did { Did T.Tally.kind (R.Rule.meaning rule.now) self.old (posting key.now amount (length words.old)) (of_tally result) self.new }
-        ensures words { SparesWords (of_tally result) words.old words.new }
+        ensures did { Did T.Tally.kind (R.Rule.meaning rule.now) self.old (posting key.now amount (length words.old)) (told_as Tallied result) self.new }
+        ensures words { SparesWords (told_as Tallied result) words.old words.new }
     {
         if words.len() < 2 * self.shape.buckets as usize {
             return Err(Refusal::Words);
         }
-        if key.len() > LONGEST {
-            return Err(Refusal::LongKey);
-        }
+        let fingerprint = self.fingerprint(rule, key)?;
         if !amount.is_amount() {
             return Err(Refusal::NoAmount);
         }
-        let fingerprint = self.fingerprint(rule, key);
         match self.seat_of(fingerprint) {
-            Some(i) => match self.tally_of(i).join(&amount) {
-                Some(tally) => {
-                    retally(self.seats, i, tally);
-                    Ok(tally)
-                }
-                None => Err(Refusal::Ceiling),
-            },
+            Some(i) => {
+                let tally = self.tally_of(i).join(&amount).ok_or(Refusal::Ceiling)?;
+                retally(self.seats, i, tally);
+                Ok(tally)
+            }
             None => {
                 let shape = self.shape;
                 place(self.seats, shape, fingerprint, amount, words)?;

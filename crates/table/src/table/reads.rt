@@ -1,10 +1,12 @@
 // Opening a table, and what its seats hold of a fingerprint.
-ghost use Rattle.std.specs.Prelude.{◌≡◌, ℕ, ◌*◌, ◌<◌, length, replicate, MatchOption};
-ghost use Rattle.seats.specs.Shapes.{size};
-ghost use Rattle.seats.specs.Seats.{at, vacant, Sits};
-ghost use Rattle.book.specs.Answers.{of_held};
-ghost use Rattle.book.specs.Books.{look_up as looking};
+ghost use Rattle.std.specs.Prelude.{◌≡◌, ℕ, ◌*◌, ◌<◌, true, length, replicate, MatchOption, MatchResult};
+ghost use Rattle.seats.specs.declared.refusal.Refusal.TheVariants.{LongKey};
+ghost use Rattle.seats.specs.Seats.{at, vacant};
+ghost use Rattle.book.specs.declared.answer.Outcome.TheVariants.{Held};
+ghost use Rattle.book.specs.Answers.{told_as};
+ghost use Rattle.book.specs.Books.{look_up as looking, too_long};
 ghost use Rattle.table.specs.Tables.{Fresh, Did};
+ghost use Rattle.table.specs.Seated.{Keyed, SitsIn};
 
 use super::Table;
 use rules::rule::Rule;
@@ -16,7 +18,7 @@ use seats::write::{tally_at, vacate_all};
 use tallies::tally::Tally;
 
 // The most bytes of a key.
-pub(crate) const LONGEST: usize = 64;
+const LONGEST: usize = 64;
 
 impl<'a, T: Tally + Copy> Table<'a, T> {
     // A table that holds nothing, whatever the seats held.
@@ -35,19 +37,23 @@ impl<'a, T: Tally + Copy> Table<'a, T> {
 }
 
 impl<T: Tally + Copy> Table<'_, T> {
-    // The fingerprint of a key.
-    pub(crate) fn fingerprint<R: Rule>(&self, rule: &R, key: &[u8]) -> u32
-        ensures value { result ≡ R.Rule.meaning rule.now key.now (size self.now.shape).range }
-        ensures below { result < (size self.now.shape).range }
+    // The fingerprint of a key. A key of more than 64 bytes is turned away.
+    pub(crate) fn fingerprint<R: Rule>(&self, rule: &R, key: &[u8]) -> Result<u32, Refusal>
+        ensures { MatchResult result
+            (Keyed (R.Rule.meaning rule.now) self.now key.now)
+            (λ why. (why ≡ LongKey) × (too_long key.now ≡ true)) }
     {
-        rule.fingerprint(key, self.shape.range())
+        if key.len() > LONGEST {
+            return Err(Refusal::LongKey);
+        }
+        Ok(rule.fingerprint(key, self.shape.range()))
     }
 
     // The seat that holds the fingerprint.
     pub(crate) fn seat_of(&self, fingerprint: u32) -> Option<usize>
         ensures { MatchOption result
-            ((i : ℕ) → Sits T.Tally.kind.empty self.now.seats.now (size self.now.shape) fingerprint i → ⊥)
-            (λ i. Sits T.Tally.kind.empty self.now.seats.now (size self.now.shape) fingerprint i) }
+            ((i : ℕ) → SitsIn T.Tally.kind self.now fingerprint i → ⊥)
+            (λ i. SitsIn T.Tally.kind self.now fingerprint i) }
     {
         find(self.seats, self.shape, fingerprint)
     }
@@ -62,12 +68,11 @@ impl<T: Tally + Copy> Table<'_, T> {
 
     // The tally that is held for the key's fingerprint, or nothing.
     pub fn look_up<R: Rule>(&self, rule: &R, key: &[u8]) -> Result<Option<T>, Refusal>
-        ensures { Did T.Tally.kind (R.Rule.meaning rule.now) self.now (looking key.now) (of_held result) self.now }
+        ensures { Did T.Tally.kind (R.Rule.meaning rule.now) self.now (looking key.now) (told_as Held result) self.now }
     {
-        if key.len() > LONGEST {
-            return Err(Refusal::LongKey);
-        }
-        match self.seat_of(self.fingerprint(rule, key)) {
+        let fingerprint = self.fingerprint(rule, key)?;
+        // a proof does not see what a closure passed to `map` reads of the table
+        match self.seat_of(fingerprint) {
             Some(i) => Ok(Some(self.tally_of(i))),
             None => Ok(None),
         }

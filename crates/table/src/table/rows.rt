@@ -1,7 +1,8 @@
 // Widening and narrowing, and the rows in use.
 ghost use Rattle.std.specs.Prelude.{◌≡◌, length};
 ghost use Rattle.rules.specs.Rules.{Meaning};
-ghost use Rattle.book.specs.Answers.{of_rows};
+ghost use Rattle.book.specs.declared.answer.Outcome.TheVariants.{Sized};
+ghost use Rattle.book.specs.Answers.{told_as};
 ghost use Rattle.book.specs.Books.{narrow as narrowing, widen as widening};
 ghost use Rattle.table.specs.Tables.{Did, SparesWords};
 
@@ -24,7 +25,7 @@ impl<T: Tally + Copy> Table<'_, T> {
 
     // Takes one row more into use.
     pub fn widen(&mut self) -> Result<Rows, Refusal>
-        ensures { (rule : Meaning) → Did T.Tally.kind rule self.old widening (of_rows result) self.new }
+        ensures { (rule : Meaning) → Did T.Tally.kind rule self.old widening (told_as Sized result) self.new }
     {
         if self.shape.rows >= self.shape.most {
             return Err(Refusal::RowLimit);
@@ -35,15 +36,12 @@ impl<T: Tally + Copy> Table<'_, T> {
 
     // Takes one row out of use. The entries of that row move to the rows below.
     pub fn narrow(&mut self, words: &mut [u32]) -> Result<Rows, Refusal>
-        ensures did { (rule : Meaning) → Did T.Tally.kind rule self.old (narrowing (length words.old)) (of_rows result) self.new }
-        ensures words { SparesWords (of_rows {V = T} result) words.old words.new }
+        ensures did { (rule : Meaning) → Did T.Tally.kind rule self.old (narrowing (length words.old)) (told_as Sized result) self.new }
+        ensures words { SparesWords (told_as {V = T} Sized result) words.old words.new }
     {
         let shape = self.shape;
         let narrower = clear_last_row(self.seats, shape, words)?;
         self.shape = narrower;
-        Ok(Rows {
-            rows: narrower.rows,
-            held: self.held,
-        })
+        Ok(self.size())
     }
 }

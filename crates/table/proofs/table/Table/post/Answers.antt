@@ -1,55 +1,35 @@
-use Rattle.std.proofs.Common.{length, sym, refl, inl, inr, ⊎_elim, arith}
+use Rattle.std.proofs.Common.{length, sym, refl, ◌∙◌, arith}
 use Rattle.std.proofs.lemmas.Result.{err_from_is_err_and}
-use Rattle.std.proofs.lemmas.Bool.{le-ltb}
-use Rattle.seats.specs.declared.refusal.Refusal.TheVariants.{NoSeating}
-use Rattle.table.proofs.Reading.{spared, reads_none, reads_some, sits_inside}
-use Rattle.table.proofs.Changing.{tallied_accepts}
+use Rattle.seats.specs.declared.refusal.Refusal.TheVariants.{Ceiling}
+use Rattle.table.proofs.Reading.{lacking, reads_none, reads_some}
 use Rattle.table.proofs.Posting.{posted_over, posted_more, posted_new, posted_full}
 use Rattle.table.proofs.table.Table.post.Goals as goal
 
-pub tally_of-requires : goal.tally_of-requires
-tally_of-requires g c = sits_inside g.T.Tally.kind c.args.self.now c.fingerprint-fingerprint.result c.in-Some.i c.in-Some.ensures
+pub returns-in_err-tally-in-Some-clause-did : goal.returns-in_err-tally-in-Some-clause-did
+returns-in_err-tally-in-Some-clause-did g c =
+    let k = g.T.Tally.kind in
+    let p = err_from_is_err_and c.from_residual-in_err-tally-in-Some.result c.from_residual-in_err-tally-in-Some.ensures.1 in
+    let (none, why) = lacking c.join.result c.in_err-tally-in-Some.field-0.0 Ceiling c.in_err-tally-in-Some.ensures.value in
+    rw (p.1, p.2, why) (posted_over k c.in_ok-fingerprint.ensures c.args.amount (length c.args.words.now) (omega arith) (sym c.if-not-is_amount.ensures.value)
+    c.tally_of.result (reads_some k c.args.self.now c.in_ok-fingerprint.fingerprint c.in-Some.i c.tally_of.result c.in-Some.ensures c.tally_of.ensures) (sym c.join.ensures.value ∙ none))
 
-pub retally-requires : goal.retally-requires
-retally-requires g c = sits_inside g.T.Tally.kind c.args.self.now c.fingerprint-fingerprint.result c.in-Some.i c.in-Some.ensures
+pub returns-in_ok-tally-in-Some-clause-did : goal.returns-in_ok-tally-in-Some-clause-did
+returns-in_ok-tally-in-Some-clause-did g c =
+    posted_more g.T.Tally.kind c.in_ok-fingerprint.ensures c.args.amount (length c.args.words.now) (omega arith) (sym c.if-not-is_amount.ensures.value)
+    g.met.T.Tally.lawful _ c.in-Some.i c.tally_of.result c.in_ok-tally-in-Some.tally c.in-Some.ensures c.tally_of.ensures
+    (sym c.join.ensures.value ∙ c.in_ok-tally-in-Some.ensures.ok_part) c.retally.ensures refl refl refl
 
-pub returns-in-None-join : goal.returns-in-None-join
-returns-in-None-join g c = record {
-  did =
-      posted_over g.T.Tally.kind (g.R.Rule.meaning c.args.rule.now) c.args.self.now c.args.key.now c.fingerprint-fingerprint.result c.args.amount (length c.args.words.now)
-      (omega arith) (le-ltb 64 (length c.args.key.now) c.if-key-gt-LONGEST.false) (sym c.if-not-is_amount.ensures.value) c.fingerprint-fingerprint.ensures.value
-      c.tally_of.result (reads_some g.T.Tally.kind c.args.self.now c.fingerprint-fingerprint.result c.in-Some.i c.tally_of.result c.in-Some.ensures c.tally_of.ensures)
-      (sym c.in-None-join.ensures.value);
-  words = λ _ _ _. refl;
-}
+pub returns-in_ok-place-in-None-clause-did : goal.returns-in_ok-place-in-None-clause-did
+returns-in_ok-place-in-None-clause-did g c =
+    let k = g.T.Tally.kind in
+    posted_new k c.in_ok-fingerprint.ensures c.args.amount (length c.args.words.now) (omega arith) (sym c.if-not-is_amount.ensures.value)
+    (reads_none k c.args.self.now c.in_ok-fingerprint.fingerprint c.in-None.ensures)
+    g.met.T.Tally.lawful _ c.in_ok-place-in-None.ensures.placed.1 c.place.auto.seats refl c.saturating_add-self.ensures refl
 
-pub returns-in-Some-join : goal.returns-in-Some-join
-returns-in-Some-join g c = record {
-  did =
-      posted_more g.T.Tally.kind (g.R.Rule.meaning c.args.rule.now) c.args.self.now c.args.key.now c.fingerprint-fingerprint.result c.args.amount (length c.args.words.now)
-      (omega arith) (le-ltb 64 (length c.args.key.now) c.if-key-gt-LONGEST.false) (sym c.if-not-is_amount.ensures.value) c.fingerprint-fingerprint.ensures.value
-      g.met.T.Tally.lawful _ c.in-Some.i c.tally_of.result c.in-Some-join.tally c.in-Some.ensures c.tally_of.ensures (sym c.in-Some-join.ensures.value) c.retally.ensures refl refl refl;
-  words = λ _ _ _. refl;
-}
-
-pub returns-in_ok-place-in-None : goal.returns-in_ok-place-in-None
-returns-in_ok-place-in-None g c = record {
-  did =
-      posted_new g.T.Tally.kind (g.R.Rule.meaning c.args.rule.now) c.args.self.now c.args.key.now c.fingerprint-fingerprint.result c.args.amount (length c.args.words.now)
-      (omega arith) (le-ltb 64 (length c.args.key.now) c.if-key-gt-LONGEST.false) (sym c.if-not-is_amount.ensures.value) c.fingerprint-fingerprint.ensures.value
-      (reads_none g.T.Tally.kind c.args.self.now c.fingerprint-fingerprint.result c.in-None.ensures)
-      g.met.T.Tally.lawful _ c.in_ok-place-in-None.ensures.placed.1 c.place.auto.seats refl c.saturating_add-self.ensures refl;
-  words = λ why is. absurd (tallied_accepts c.args.amount why is);
-}
-
-pub returns-in_err-place-in-None : goal.returns-in_err-place-in-None
-returns-in_err-place-in-None g c =
-    let p = err_from_is_err_and c.from_residual.result c.from_residual.ensures.1 in
-    rw (p.1, p.2) (record {
-      did =
-          posted_full g.T.Tally.kind (g.R.Rule.meaning c.args.rule.now) c.args.self.now c.args.key.now c.fingerprint-fingerprint.result c.args.amount (length c.args.words.now)
-          (omega arith) (le-ltb 64 (length c.args.key.now) c.if-key-gt-LONGEST.false) (sym c.if-not-is_amount.ensures.value) c.fingerprint-fingerprint.ensures.value
-          (reads_none g.T.Tally.kind c.args.self.now c.fingerprint-fingerprint.result c.in-None.ensures)
-          _ _ c.in_err-place-in-None.ensures.placed.same refl refl refl g.met.T.Tally.lawful c.in_err-place-in-None.ensures.placed.reason c.fingerprint-fingerprint.ensures.below;
-      words = spared NoSeating refl _ _ _ (⊎_elim inl (λ h. inr (h.0, h.1)) c.in_err-place-in-None.ensures.placed.reason) (λ barred. ⊎_elim (λ same. same) (λ h. absurd (barred h.0)) c.in_err-place-in-None.ensures.spared);
-    })
+pub returns-in_err-place-in-None-clause-did : goal.returns-in_err-place-in-None-clause-did
+returns-in_err-place-in-None-clause-did g c =
+    let k = g.T.Tally.kind in
+    let p = err_from_is_err_and c.from_residual-in_err-place-in-None.result c.from_residual-in_err-place-in-None.ensures.1 in
+    rw (p.1, p.2) (posted_full k c.in_ok-fingerprint.ensures c.args.amount (length c.args.words.now) (omega arith) (sym c.if-not-is_amount.ensures.value)
+    (reads_none k c.args.self.now c.in_ok-fingerprint.fingerprint c.in-None.ensures)
+    _ _ c.in_err-place-in-None.ensures.placed.same refl refl refl g.met.T.Tally.lawful c.in_err-place-in-None.ensures.placed.reason)

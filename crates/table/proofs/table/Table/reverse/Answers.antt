@@ -1,41 +1,30 @@
-use Rattle.std.proofs.Common.{length, sym, refl}
-use Rattle.std.proofs.lemmas.Bool.{le-ltb}
-use Rattle.table.proofs.Reading.{reads_none, reads_some, sits_inside}
-use Rattle.table.proofs.Reversing.{reversed_none, reversed_short, reversed_all, reversed_part}
+use Rattle.std.proofs.Common.{sym, refl, ◌∙◌}
+use Rattle.std.proofs.lemmas.Result.{err_from_is_err_and}
+use Rattle.seats.specs.declared.refusal.Refusal.TheVariants.{NotHeld}
+use Rattle.table.proofs.Reading.{lacking, reads_nowhere, sits_found}
+use Rattle.table.proofs.Reversing.{reversed_none, reversed_all, reversed_part}
 use Rattle.table.proofs.table.Table.reverse.Goals as goal
 
-pub tally_of-requires : goal.tally_of-requires
-tally_of-requires g c = sits_inside g.T.Tally.kind c.args.self.now c.fingerprint.result c.in-Some.i c.in-Some.ensures
-
-pub vacate-tally-requires : goal.vacate-tally-requires
-vacate-tally-requires g c = sits_inside g.T.Tally.kind c.args.self.now c.fingerprint.result c.in-Some.i c.in-Some.ensures
-
-pub retally-requires : goal.retally-requires
-retally-requires g c = sits_inside g.T.Tally.kind c.args.self.now c.fingerprint.result c.in-Some.i c.in-Some.ensures
+pub returns-in_err-i : goal.returns-in_err-i
+returns-in_err-i g c =
+    let k = g.T.Tally.kind in
+    let p = err_from_is_err_and c.from_residual-in_err-i.result c.from_residual-in_err-i.ensures.1 in
+    let (none, why) = lacking c.seat_of.result c.in_err-i.field-0.0 NotHeld c.in_err-i.ensures.value in
+    rw (p.1, p.2, why) (reversed_none k c.in_ok-fingerprint.ensures c.args.amount (sym c.if-not-is_amount.ensures.value)
+    (reads_nowhere k c.args.self.now c.in_ok-fingerprint.fingerprint c.seat_of.result none c.seat_of.ensures))
 
 pub returns-then-is_empty : goal.returns-then-is_empty
 returns-then-is_empty g c =
-    reversed_all g.T.Tally.kind (g.R.Rule.meaning c.args.rule.now) c.args.self.now c.args.key.now c.fingerprint.result
-    (le-ltb 64 (length c.args.key.now) c.if-key-gt-LONGEST.false) c.fingerprint.ensures.value c.args.amount (sym c.if-not-is_amount.ensures.value)
-    _ c.in-Some.i c.tally_of.result c.in-Some-take_back.rest c.in-Some.ensures c.tally_of.ensures (sym c.in-Some-take_back.ensures.value) refl refl
-    (sym c.if-is_empty.ensures.value) c.vacate-tally.ensures.after c.saturating_sub-self.ensures
+    let k = g.T.Tally.kind in
+    let sits = sits_found k c.args.self.now c.in_ok-fingerprint.fingerprint c.seat_of.result c.in_ok-i.i c.in_ok-i.ensures.ok_part c.seat_of.ensures in
+    reversed_all k c.in_ok-fingerprint.ensures c.args.amount (sym c.if-not-is_amount.ensures.value)
+    c.take_out-tally.new.self c.in_ok-i.i c.tally_of.result c.in_ok-rest.rest sits c.tally_of.ensures (sym c.take_back.ensures.value ∙ c.in_ok-rest.ensures.ok_part)
+    (sym c.if-is_empty.ensures.value) c.take_out-tally.ensures.after
 
-pub returns-else-is_empty : goal.returns-else-is_empty
-returns-else-is_empty g c =
-    reversed_part g.T.Tally.kind (g.R.Rule.meaning c.args.rule.now) c.args.self.now c.args.key.now c.fingerprint.result
-    (le-ltb 64 (length c.args.key.now) c.if-key-gt-LONGEST.false) c.fingerprint.ensures.value c.args.amount (sym c.if-not-is_amount.ensures.value)
-    _ c.in-Some.i c.tally_of.result c.in-Some-take_back.rest c.in-Some.ensures c.tally_of.ensures (sym c.in-Some-take_back.ensures.value) refl refl
-    g.met.T.Tally.lawful (sym c.if-is_empty.ensures.value) c.retally.ensures refl
-
-pub returns-in-None-take_back : goal.returns-in-None-take_back
-returns-in-None-take_back g c =
-    reversed_short g.T.Tally.kind (g.R.Rule.meaning c.args.rule.now) c.args.self.now c.args.key.now c.fingerprint.result
-    (le-ltb 64 (length c.args.key.now) c.if-key-gt-LONGEST.false) c.fingerprint.ensures.value c.args.amount (sym c.if-not-is_amount.ensures.value)
-    c.tally_of.result (reads_some g.T.Tally.kind c.args.self.now c.fingerprint.result c.in-Some.i c.tally_of.result c.in-Some.ensures c.tally_of.ensures)
-    (sym c.in-None-take_back.ensures.value)
-
-pub returns-in-None : goal.returns-in-None
-returns-in-None g c =
-    reversed_none g.T.Tally.kind (g.R.Rule.meaning c.args.rule.now) c.args.self.now c.args.key.now c.fingerprint.result
-    (le-ltb 64 (length c.args.key.now) c.if-key-gt-LONGEST.false) c.fingerprint.ensures.value c.args.amount (sym c.if-not-is_amount.ensures.value)
-    (reads_none g.T.Tally.kind c.args.self.now c.fingerprint.result c.in-None.ensures)
+pub returns : goal.returns
+returns g c =
+    let k = g.T.Tally.kind in
+    let sits = sits_found k c.args.self.now c.in_ok-fingerprint.fingerprint c.seat_of.result c.in_ok-i.i c.in_ok-i.ensures.ok_part c.seat_of.ensures in
+    reversed_part k c.in_ok-fingerprint.ensures c.args.amount (sym c.if-not-is_amount.ensures.value)
+    _ c.in_ok-i.i c.tally_of.result c.in_ok-rest.rest sits c.tally_of.ensures (sym c.take_back.ensures.value ∙ c.in_ok-rest.ensures.ok_part)
+    g.met.T.Tally.lawful (sym c.if-is_empty.ensures.value) c.retally.ensures refl refl refl
