@@ -23,9 +23,6 @@ one_bucket : (m f : ℕ) (flag : Bool) → f / m ≡ f % m → (place_of m f fla
 one_bucket m f true even = even
 one_bucket m f false even = sym even
 
-none_is_not_some : {A : Type 0} (o : Option A) (x : A) → o ≡ None → o ≡ Some x → ⊥
-none_is_not_some o x p q = let z : ◌≡◌ {A = ℕ} 0 1 = cc in omega arith
-
 module _ {X : Type 0} (e : X) {z : Size} (sound : Sound z) (xs : List (Seat X)) (entries : ℕ → Option X) (shows : Shows e xs z entries) where
   -- a free seat in the rows in use is vacant already
   pub shows_vacant : (b i : ℕ) → b < z.buckets → Lies z b i → (at e xs i).tally ≡ e → Shows e (set xs i (vacant e)) z entries
@@ -40,7 +37,7 @@ module _ {X : Type 0} (e : X) {z : Size} (sound : Sound z) (xs : List (Seat X)) 
   shows_new f i s inside empty none sits upright =
       shows_filled e sound xs entries f i s shows inside
       (λ g t. absurd (t.filled (ap (λ (x : Seat X). x.tally) empty)))
-      (λ j t. absurd (none_is_not_some (entries f) (at e xs j).tally none (shows.told f j t)))
+      (λ j t. absurd (cc (none, shows.told f j t)))
       sits upright
 
 -- the entry of the seat s, at this row of the bucket i, is moved to the vacant seat h of its other bucket j

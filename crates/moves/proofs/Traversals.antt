@@ -26,28 +26,26 @@ pub lies_inside : {z : Size} → Sound z → (b i : ℕ) → b < z.buckets → L
 lies_inside sound b i low (row, in_rows, lies) = omega (arith, bucket_inside sound b low)
 
 module _ {X : Type 0} {e : X} {seats : List (Seat X)} {z : Size} (sound : Sound z) where
-  module _ {links queue : List ℕ} {head tail : ℕ} (r : Reached e seats z links queue head tail) (on : head < tail) (n : ℕ) (in_rows : n < z.rows)
-      {links' queue' : List ℕ} {tail' : ℕ} (x : Expanding e seats z (get_or queue head 0) n links queue head tail links' queue' tail')
-      (filled : Filled e seats (get_or queue head 0 * z.most + n)) where
-    abbrev bucket : ℕ
-    bucket = get_or queue head 0
-
+  module _ {links queue : List ℕ} {head tail : ℕ} (r : Reached e seats z links queue head tail) (on : head < tail) (bucket : ℕ) (left : bucket ≡ get_or queue head 0) (n : ℕ) (in_rows : n < z.rows)
+      {links' queue' : List ℕ} {tail' : ℕ} (x : Expanding e seats z bucket n links queue head tail links' queue' tail')
+      (filled : Filled e seats (bucket * z.most + n)) where
     -- the entry at row n may move to a bucket, which is visited
     pub expanding_more : length links' ≡ z.buckets → z.buckets ≤ length queue' → (j : ℕ) → j ≡ other e seats z bucket n → j < z.buckets →
         {links'' queue'' : List ℕ} {tail'' : ℕ} → Visit links' queue' tail' j (bucket * z.most + n) links'' queue'' tail'' →
         Expanding e seats z bucket (n + 1) links queue head tail links'' queue'' tail''
     expanding_more long wide j is low {links''} {queue''} {tail''} v =
         let i = bucket * z.most + n in
-        let inside = bucket_inside sound bucket (r.order.low head on) in
+        let low_bucket : bucket < z.buckets = omega (arith, left, r.order.low head on) in
+        let inside = bucket_inside sound bucket low_bucket in
         let small = few_seats sound in
         let real : i ≡ unseen → ⊥ = λ h. omega arith in
         let inner : i ≡ root → ⊥ = λ h. omega arith in
-        let same : get_or queue' head 0 ≡ bucket = x.grown.same head on in
+        let same : get_or queue' head 0 ≡ bucket = x.grown.same head on ∙ sym left in
         let still_on = x.grown.longer in
         let w = visited e seats z x.reached (omega arith) long wide n j i low real inner in_rows (ap (λ b. b * z.most + n) (sym same)) (sym is) filled v in
         let grew = grown_visit x.reached.order long wide j i low real inner v in
         let rank = w.reached.tree.rank in
-        let seen : Seen links' bucket = grown_seen x.grown bucket (r.order.listed head on) in
+        let seen : Seen links' bucket = grown_seen x.grown bucket (subst (Seen links) (sym left) (r.order.listed head on)) in
         record {
           reached = w.reached;
           grown = grown_more x.grown grew;

@@ -3,8 +3,6 @@ use Rattle.std.specs.Prelude.{◌≡◌, ℕ, ◌+◌, ◌*◌, ◌/◌, ◌%◌
 use Rattle.seats.specs.declared.seat.Seat.{Seat}
 use Rattle.seats.specs.Shapes.{Size}
 use Rattle.seats.specs.Seats.{at, Filled, Lies}
-use Rattle.moves.specs.declared.traversal.Expansion.{Expansion}
-use Rattle.moves.specs.declared.traversal.Expansion.TheVariants.{Free as FreeAt, Full as FullTo}
 use Rattle.moves.specs.Queue.{Seen, Roots, Grown}
 use Rattle.moves.specs.Tree.{other, Near, Tree, Reached}
 
@@ -26,11 +24,6 @@ pub record Stopped {X : Type 0} (e : X) (seats : List (Seat X)) (z : Size) (buck
   pub grown : Grown z links queue tail links' queue' end
   pub lies : Lies z bucket i
   pub empty : (at e seats i).tally ≡ e
-
--- what became of the bucket at the queue's head
-abbrev pub Expanded : {X : Type 0} → X → List (Seat X) → Size → List ℕ → List ℕ → ℕ → ℕ → List ℕ → List ℕ → Expansion → Type 0
-Expanded e seats z links queue head tail links' queue' (FreeAt i) = Stopped e seats z (slice_index queue head) i links queue head tail links' queue'
-Expanded e seats z links queue head tail links' queue' (FullTo end) = Expanding e seats z (slice_index queue head) z.rows links queue head tail links' queue' end
 
 -- under way: the buckets before the queue's head are full
 pub record Traversing {X : Type 0} (e : X) (seats : List (Seat X)) (z : Size) (f : ℕ) (links queue : List ℕ) (head tail : ℕ) : Type 0 where

@@ -4,7 +4,7 @@ ghost use Rattle.seats.specs.Shapes.{size};
 ghost use Rattle.moves.specs.Opening.{Crowded, First, Ready, NotReady};
 ghost use Rattle.moves.specs.Placed.{Placed, Spared};
 
-use crate::traversal::nearest_free;
+use crate::traversal::Traversal;
 use crate::walk::{enter, walk_back};
 use seats::find::free_seat;
 use seats::refusal::Refusal;
@@ -18,13 +18,16 @@ fn own_seat<T: Tally + Copy>(seats: &[Seat<T>], shape: Shape, fingerprint: u32) 
         (Crowded T.Tally.kind.empty seats.now (size shape) fingerprint)
         (λ i. First T.Tally.kind.empty seats.now (size shape) fingerprint i) }
 {
-    if let Some(i) = free_seat(seats, shape, shape.place(fingerprint, true).bucket) {
-        return Some(i);
-    }
-    free_seat(seats, shape, shape.place(fingerprint, false).bucket)
+    let quotient = shape.place(fingerprint, true).bucket;
+    free_seat(seats, shape, quotient).or_else(|| {
+        let remainder = shape.place(fingerprint, false).bucket;
+        free_seat(seats, shape, remainder)
+    })
 }
 
-// Opens a seat for the fingerprint in one of its buckets, by moves if they are full.
+// Opens a seat for the fingerprint in one of its buckets, by moves if they are full. What `sizes` and `below` say stands in
+// the functions that this one calls too: a struct over the lent seats is no plainer, since each of its methods would have to
+// say that it keeps the struct's references.
 fn open_seat<T: Tally + Copy>(
     seats: &mut [Seat<T>],
     shape: Shape,
@@ -38,14 +41,12 @@ fn open_seat<T: Tally + Copy>(
         (λ hole. Ready T.Tally.kind.empty seats.old seats.new (size shape) fingerprint hole) }
     ensures spared { (words.new ≡ words.old) ⊎ Crowded T.Tally.kind.empty seats.old (size shape) fingerprint }
 {
-    if let Some(i) = own_seat(seats, shape, fingerprint) {
-        return Some(i);
+    if let Some(free) = own_seat(seats, shape, fingerprint) {
+        return Some(free);
     }
-    let (links, queue) = words.split_at_mut(shape.buckets as usize);
-    match nearest_free(seats, shape, fingerprint, links, queue) {
-        None => None,
-        Some(free) => Some(walk_back(seats, shape, links, free)),
-    }
+    let mut traversal = Traversal::new(shape, words);
+    let free = traversal.nearest_free(seats, fingerprint)?;
+    Some(walk_back(seats, &traversal, free))
 }
 
 // Places a new entry of the fingerprint, which the seats do not hold: in a free seat of its buckets, or where they have none
@@ -72,11 +73,7 @@ pub fn place<T: Tally + Copy>(
     if fingerprint >= shape.range().get() {
         return Err(Refusal::NoSeating);
     }
-    match open_seat(seats, shape, fingerprint, words) {
-        None => Err(Refusal::NoSeating),
-        Some(hole) => {
-            enter(seats, shape, fingerprint, tally, hole);
-            Ok(())
-        }
-    }
+    let hole = open_seat(seats, shape, fingerprint, words).ok_or(Refusal::NoSeating)?;
+    enter(seats, shape, fingerprint, tally, hole);
+    Ok(())
 }

@@ -5,7 +5,7 @@ ghost use Rattle.moves.specs.Queue.{root};
 ghost use Rattle.moves.specs.Traversal.{Chain};
 ghost use Rattle.moves.specs.Walk.{moved, entered, Opened};
 
-use crate::traversal::ROOT;
+use crate::traversal::{ROOT, Traversal};
 use seats::seat::Seat;
 use seats::shape::Shape;
 use tallies::tally::Tally;
@@ -19,7 +19,7 @@ fn move_entry<T: Tally + Copy>(seats: &mut [Seat<T>], from: usize, bucket: u32, 
     seats[hole] = Seat {
         carry: bucket,
         flag: !entry.flag,
-        tally: entry.tally,
+        ..entry
     };
 }
 
@@ -27,20 +27,19 @@ fn move_entry<T: Tally + Copy>(seats: &mut [Seat<T>], from: usize, bucket: u32, 
 // that is open then. The entry there has moved on too: the seat is to be written.
 pub(crate) fn walk_back<T: Tally + Copy>(
     seats: &mut [Seat<T>],
-    shape: Shape,
-    links: &[u32],
+    traversal: &Traversal,
     free: usize,
 ) -> usize
-    requires sizes { (length seats.old ≡ shape.buckets * shape.most) × (length links.now ≡ shape.buckets) }
-    requires chain { Chain T.Tally.kind.empty seats.old (size shape) links.now free }
-    ensures { (bucket : ℕ) × (slice_index links.now bucket ≡ root) ×
-        Opened T.Tally.kind.empty seats.old seats.new (size shape) bucket result }
+    requires sizes { length seats.old ≡ traversal.now.shape.buckets * traversal.now.shape.most }
+    requires chain { Chain T.Tally.kind.empty seats.old (size traversal.now.shape) traversal.now.links.now free }
+    ensures { (bucket : ℕ) × (slice_index traversal.now.links.now bucket ≡ root) ×
+        Opened T.Tally.kind.empty seats.old seats.new (size traversal.now.shape) bucket result }
 {
     let mut hole = free;
-    let mut bucket = free / shape.most as usize;
-    while links[bucket] != ROOT {
-        let from = links[bucket] as usize;
-        let next = from / shape.most as usize;
+    let mut bucket = free / traversal.shape.most as usize;
+    while traversal.links[bucket] != ROOT {
+        let from = traversal.links[bucket] as usize;
+        let next = from / traversal.shape.most as usize;
         move_entry(seats, from, next as u32, hole);
         hole = from;
         bucket = next;

@@ -1,7 +1,8 @@
 -- The last row in use, cleared bucket by bucket. Assumes nothing.
-use Rattle.std.proofs.Common.{◌≡◌, ℕ, ◌+◌, ◌-◌, ◌*◌, ◌<◌, ◌≤◌, true, false, cond, not, eqb, ltb, List, Some, None, sym, ap, ◌∙◌, subst, ⊎_elim, arith}
+use Rattle.std.proofs.Common.{◌≡◌, ℕ, ◌+◌, ◌-◌, ◌*◌, ◌<◌, ◌≤◌, cond, not, eqb, ltb, List, Some, None, Ok, Err, sym, ap, ◌∙◌, subst, ⊎_elim, arith}
 use Rattle.std.proofs.lemmas.Bool.{cases_eq, cases_lt, eq-eqb, le-ltb, lt-ltb}
-use Rattle.seats.specs.declared.refusal.Refusal.TheVariants.{Seats, Words, RowLimit}
+use Rattle.seats.specs.declared.refusal.Refusal.{Refusal}
+use Rattle.seats.specs.declared.refusal.Refusal.TheVariants.{Seats, Words, RowLimit, NoNarrowSeating}
 use Rattle.seats.specs.declared.seat.Seat.{Seat}
 use Rattle.seats.specs.Shapes.{Size, Sound}
 use Rattle.seats.specs.Seats.{Filled, at}
@@ -26,7 +27,7 @@ module _ {X : Type 0} (e : X) {z : Size} (sound : Sound z) (more : 1 < z.rows) (
   }
 
   -- one bucket more
-  pub cleared_more : (xs ys : List (Seat X)) (bucket : ℕ) → bucket < z.buckets → Shifted e before xs z → Emptied xs bucket → Lowered e xs ys z bucket true → Shifted e before ys z × Emptied ys (bucket + 1)
+  pub cleared_more : (xs ys : List (Seat X)) (bucket : ℕ) → bucket < z.buckets → Shifted e before xs z → Emptied xs bucket → Lowered e xs ys z bucket (Ok tt) → Shifted e before ys z × Emptied ys (bucket + 1)
   cleared_more xs ys bucket low shifted emptied (on, here, others) = (
     shifted_on xs ys shifted on,
     λ other below.
@@ -37,9 +38,9 @@ module _ {X : Type 0} (e : X) {z : Size} (sound : Sound z) (more : 1 < z.rows) (
   )
 
   -- a bucket that cannot be cleared
-  pub not_cleared : (xs ys : List (Seat X)) (bucket : ℕ) → Shifted e before xs z → Lowered e xs ys z bucket false → Shifted e before ys z × Crowded e before z
-  not_cleared xs ys bucket shifted (same, crowded) =
-      (subst (λ zs. Shifted e before zs z) (sym same) shifted, λ entries shows. crowded entries (shifted.shows entries shows))
+  pub not_cleared : (xs ys : List (Seat X)) (bucket : ℕ) → (why : Refusal) → Shifted e before xs z → Lowered e xs ys z bucket (Err why) → (why ≡ NoNarrowSeating) × Shifted e before ys z × Crowded e before z
+  not_cleared xs ys bucket why shifted (is, same, crowded) =
+      (is, subst (λ zs. Shifted e before zs z) (sym same) shifted, λ entries shows. crowded entries (shifted.shows entries shows))
 
   -- all buckets
   pub cleared_all : (xs : List (Seat X)) → Shifted e before xs z → Emptied xs z.buckets → Cleared e before xs z

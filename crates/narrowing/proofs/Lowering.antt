@@ -1,14 +1,14 @@
 -- One entry of the last row in use, seated in the rows below it. Assumes nothing.
-use Rattle.std.proofs.Common.{◌≡◌, ℕ, ◌+◌, ◌-◌, ◌*◌, ◌%◌, ◌<◌, ◌≤◌, Bool, true, false, cond, not, ◌||◌, eqb, ltb, ◌⊎◌, List, length, set, is_some as option_is_some, Some, None, Option, sym, refl, ap, ◌∙◌, subst, inl, inr, ⊎_elim, arith}
+use Rattle.std.proofs.Common.{◌≡◌, ℕ, ◌+◌, ◌-◌, ◌*◌, ◌%◌, ◌<◌, ◌≤◌, Bool, true, false, cond, not, ◌||◌, eqb, ltb, ◌⊎◌, List, length, get_or, set, is_some as option_is_some, Some, None, Option, Ok, Err, sym, refl, ap, ◌∙◌, subst, inl, inr, ⊎_elim, arith}
 use Rattle.std.proofs.lemmas.Nat.{mod-mul-add, mul-add-lt}
-use Rattle.std.proofs.lemmas.List.{get_or-set_same, get_or-set_other}
-use Rattle.std.proofs.lemmas.Bool.{cond-true, cond-false, cases_Bool, cases_eq, cases_lt, eqb-true, eqb-false, eq-eqb, lt-ltb, le-ltb, ltb-true, ltb-false}
+use Rattle.std.proofs.lemmas.List.{get_or_read, get_or-set_same, get_or-set_other}
+use Rattle.std.proofs.lemmas.Bool.{both_ways, cond-true, cond-false, cases_Bool, cases_eq, cases_lt, eqb-true, eqb-false, eq-eqb, lt-ltb, le-ltb, ltb-true, ltb-false}
 use Rattle.tallies.specs.Kinds.{Kind, Lawful}
 use Rattle.seatings.specs.Seatings.{Seating, also}
 use Rattle.seatings.proofs.Fewer.{seating_fewer}
 use Rattle.seats.specs.declared.place.Place.{Place}
 use Rattle.seats.specs.declared.refusal.Refusal.{Refusal}
-use Rattle.seats.specs.declared.refusal.Refusal.TheVariants.{Seats, Words, NoAmount}
+use Rattle.seats.specs.declared.refusal.Refusal.TheVariants.{Seats, Words, NoAmount, NoNarrowSeating}
 use Rattle.seats.specs.declared.seat.Seat.{Seat}
 use Rattle.seats.specs.Shapes.{Size, Sound}
 use Rattle.seats.specs.Places.{place_of, given_back}
@@ -18,12 +18,6 @@ use Rattle.seats.proofs.Seated.{seat_of, sits_there}
 use Rattle.moves.specs.Opening.{Unseatable}
 use Rattle.moves.specs.Placed.{Accepted, Refused, bar}
 use Rattle.narrowing.specs.Narrowed.{narrower, last_seat, Shifted, Lowered}
-
-some_none : {X : Type 0} (o : Option X) (x : X) → o ≡ Some x → o ≡ None → ⊥
-some_none o x p q = let z : ◌≡◌ {A = ℕ} 0 1 = cc in omega arith
-
-some_same : {X : Type 0} (o : Option X) (x y : X) → o ≡ Some x → o ≡ Some y → x ≡ y
-some_same o x y p q = cc
 
 is_some : {X : Type 0} (o : Option X) (x : X) → o ≡ Some x → option_is_some o ≡ true
 is_some o x is = ap option_is_some is
@@ -79,7 +73,7 @@ module _ {X : Type 0} (e : X) {z : Size} (sound : Sound z) (more : 1 < z.rows) w
         let s = sits_there e sound xs entries shows g (is_some (entries g) t entry) in
         let row = row_is xs g (seat_of e sound xs entries shows g) s in
         (entry, lowered xs g (seat_of e sound xs entries shows g) s (omega (arith, ltb-true (seat_of e sound xs entries shows g % z.most) (z.rows - 1) yes))))
-        (λ (no : is_low g ≡ false). absurd (some_none (low g) t is (cond-false (is_low g) (entries g) None no)))
+        (λ (no : is_low g ≡ false). absurd (cc (is, cond-false (is_low g) (entries g) None no)))
         (cases_Bool (is_low g))
 
     low_from : (g i : ℕ) → Sits e xs (narrower z) g i → low g ≡ Some (at e xs i).tally
@@ -302,13 +296,13 @@ module _ {X : Type 0} (e : X) {z : Size} (sound : Sound z) (more : 1 < z.rows) w
   inside bucket b = omega (arith, mul-add-lt bucket z.most (z.rows - 1) z.buckets b (omega (arith, sound.within)))
 
   -- a last seat, as it was read
-  module _ (k : Kind X) (is : k.empty ≡ e) (lawful : Lawful k) (xs : List (Seat X)) (bucket : ℕ) (b : bucket < z.buckets) (s : Seat X) (read : s ≡ at e xs (last_seat z bucket)) where
-    pub nothing_there : s.tally ≡ e → Lowered e xs xs z bucket true
-    nothing_there empty = (record { shows = λ _ shows. shows; beyond = λ _ _ _ _ _. refl }, ap (λ (x : Seat X). x.tally) (sym read) ∙ empty, λ _ _ _. refl)
+  module _ (k : Kind X) (is : k.empty ≡ e) (lawful : Lawful k) (xs : List (Seat X)) (long : length xs ≡ z.buckets * z.most) (bucket : ℕ) (b : bucket < z.buckets) (s : Seat X) (was : s ≡ get_or xs (last_seat z bucket) s) where
+    read : s ≡ at e xs (last_seat z bucket)
+    read = get_or_read xs (last_seat z bucket) s (omega (arith, inside bucket b)) was (vacant e)
 
-    module _ (some : s.tally ≡ e → ⊥) where
+    module _ (some : k.is_empty s.tally ≡ false) where
       filled : Filled e xs (last_seat z bucket)
-      filled none = some (ap (λ (x : Seat X). x.tally) read ∙ none)
+      filled none = both_ways (k.is_empty s.tally) some ((lawful.empty_told s.tally).1 (ap (λ (x : Seat X). x.tally) read ∙ none ∙ sym is))
 
       abbrev gives : ℕ
       gives = given_back z.buckets (record { bucket = bucket; carry = s.carry; flag = s.flag })
@@ -318,41 +312,39 @@ module _ {X : Type 0} (e : X) {z : Size} (sound : Sound z) (more : 1 < z.rows) w
           sits_last xs entries shows bucket f b filled
           (back ∙ ap (λ (x : Seat X). given_back z.buckets (record { bucket = bucket; carry = x.carry; flag = x.flag })) read)
 
-      pub no_fingerprint : z.range ≤ gives → Lowered e xs xs z bucket false
-      no_fingerprint large = (refl, λ entries shows _. let below = (sits_at entries shows gives refl).below in omega arith)
+      pub no_fingerprint : z.range ≤ gives → Lowered e xs xs z bucket (Err NoNarrowSeating)
+      no_fingerprint large = (refl, refl, λ entries shows _. let below = (sits_at entries shows gives refl).below in omega arith)
 
       module _ (f : ℕ) (back : f ≡ gives) (mid : List (Seat X)) where
-        pub no_seat : (words : ℕ) (why : Refusal) → length xs ≡ z.buckets * z.most → 2 * z.buckets ≤ words → Refused e xs mid (narrower z) f (bar k xs (narrower z) s.tally words) why → Lowered e xs mid z bucket false
-        no_seat words why long enough refused = (
+        pub no_seat : (words : ℕ) (why : Refusal) → 2 * z.buckets ≤ words → Refused e xs mid (narrower z) f (bar k xs (narrower z) s.tally words) why → Lowered e xs mid z bucket (Err NoNarrowSeating)
+        no_seat words why enough refused = (
+          refl,
           refused.same,
           λ entries shows.
               crowded xs entries shows bucket f b (sits_at entries shows f back)
-              (⊎_elim (λ barred_by. let none = unbarred words long enough in let n : ◌≡◌ {A = ℕ} 0 1 = cc in absurd (omega arith)) (λ h. h.2) refused.reason),
+              (⊎_elim (λ barred_by. let none = unbarred words enough in absurd (cc)) (λ h. h.2) refused.reason),
         )
           where
-            full : (x : Bool) → k.is_empty s.tally ≡ x → x ≡ false
-            full true told = absurd (some ((lawful.empty_told s.tally).0 told ∙ is))
-            full false none = refl
-
-            unbarred : (words : ℕ) → length xs ≡ z.buckets * z.most → 2 * z.buckets ≤ words → bar k xs (narrower z) s.tally words ≡ None
-            unbarred words long enough =
+            unbarred : (words : ℕ) → 2 * z.buckets ≤ words → bar k xs (narrower z) s.tally words ≡ None
+            unbarred words enough =
                 ap (λ x. cond (not x) (Some Seats) (cond (ltb words (2 * z.buckets)) (Some Words) (cond (k.is_empty s.tally) (Some NoAmount) None))) (eq-eqb (length xs) (z.buckets * z.most) long)
                 ∙ ap (λ x. cond x (Some Words) (cond (k.is_empty s.tally) (Some NoAmount) None)) (le-ltb words (2 * z.buckets) enough)
-                ∙ ap (λ x. cond x (Some NoAmount) None) (full (k.is_empty s.tally) refl)
+                ∙ ap (λ x. cond x (Some NoAmount) None) some
 
-        pub seat_below : (ys : List (Seat X)) → last_seat z bucket < length mid → Accepted e xs mid (narrower z) f s.tally → ys ≡ set mid (last_seat z bucket) (vacant e) → Lowered e xs ys z bucket true
-        seat_below ys long accepted wrote =
+        pub seat_below : (ys : List (Seat X)) → length mid ≡ length xs → Accepted e xs mid (narrower z) f s.tally → ys ≡ set mid (last_seat z bucket) (vacant e) → Lowered e xs ys z bucket (Ok tt)
+        seat_below ys same_long accepted wrote =
             let i = last_seat z bucket in
+            let low : i < length mid = omega (arith, inside bucket b) in
             let shifted : Shifted e xs (set mid i (vacant e)) z = record {
               shows = λ entries shows.
-                  shows_lowered xs entries shows bucket f b (sits_at entries shows f back) mid s.tally (ap (λ (x : Seat X). x.tally) read) long accepted;
+                  shows_lowered xs entries shows bucket f b (sits_at entries shows f back) mid s.tally (ap (λ (x : Seat X). x.tally) read) low accepted;
               beyond = λ c row low past high.
                   get_or-set_other mid i (c * z.most + row) (vacant e) (vacant e) (λ same. omega (arith, mod-mul-add c z.most row high, last_row bucket, ap (λ n. n % z.most) same))
                   ∙ accepted.beyond c row low (omega arith) high;
             } in
-            subst (λ ys. Lowered e xs ys z bucket true) (sym wrote) (
+            subst (λ ys. Lowered e xs ys z bucket (Ok tt)) (sym wrote) (
               shifted,
-              ap (λ (x : Seat X). x.tally) (get_or-set_same mid i (vacant e) (vacant e) long),
+              ap (λ (x : Seat X). x.tally) (get_or-set_same mid i (vacant e) (vacant e) low),
               λ other low apart.
                   get_or-set_other mid i (last_seat z other) (vacant e) (vacant e)
                   (λ same. apart (same_bucket e sound other (z.rows - 1) bucket (z.rows - 1) (omega arith) (omega arith) same))

@@ -1,6 +1,6 @@
 -- What clearing the last row in use promises. `e` is the empty tally; the seats are `before` and `after` the call, and `words`
 -- is how many work words were lent. Assumes nothing.
-use Rattle.std.specs.Prelude.{◌≡◌, ℕ, ◌+◌, ◌-◌, ◌*◌, ◌<◌, Bool, true, false, cond, not, ◌⊎◌, List, length, Some, None, Ok, Err, Option, Result, ◌==◌, ◌≢◌, nat_lt}
+use Rattle.std.specs.Prelude.{◌≡◌, ℕ, ◌+◌, ◌-◌, ◌*◌, ◌<◌, cond, not, ◌⊎◌, List, length, Some, None, Ok, Err, Option, Result, ◌==◌, ◌≢◌, nat_lt}
 use Rattle.seatings.specs.Seatings.{Seating}
 use Rattle.seats.specs.declared.refusal.Refusal.{Refusal}
 use Rattle.seats.specs.declared.refusal.Refusal.TheVariants.{Seats, Words, RowLimit, NoNarrowSeating}
@@ -36,11 +36,11 @@ Crowded {X} e seats z = (entries : ℕ → Option X) → Shows e seats z entries
 
 -- the last row's seat of one bucket is empty, and those of the others are as they were; or its entry has no seat in the rows
 -- below, and all seats are as they were
-abbrev pub Lowered : {X : Type 0} → X → List (Seat X) → List (Seat X) → Size → ℕ → Bool → Type 0
-Lowered e before after z bucket true =
+abbrev pub Lowered : {X : Type 0} → X → List (Seat X) → List (Seat X) → Size → ℕ → Result (Unit {0}) Refusal → Type 0
+Lowered e before after z bucket (Ok _) =
     Shifted e before after z × ((at e after (last_seat z bucket)).tally ≡ e)
     × ((other : ℕ) → other < z.buckets → (other ≢ bucket) → at e after (last_seat z other) ≡ at e before (last_seat z other))
-Lowered e before after z bucket false = (after ≡ before) × Crowded e before z
+Lowered e before after z bucket (Err why) = (why ≡ NoNarrowSeating) × (after ≡ before) × Crowded e before z
 
 -- the last row is cleared: what the seats showed, they show in one row fewer, and the rows past it are as they were
 pub record Cleared {X : Type 0} (e : X) (before after : List (Seat X)) (z : Size) : Type 0 where

@@ -20,22 +20,21 @@ fn fingerprint_at(shape: Shape, place: Place) -> Option<u32>
         ((size shape).range ≤ given_back shape.buckets place)
         (λ f. (f ≡ given_back shape.buckets place) × (f < (size shape).range)) }
 {
-    let number = shape.fingerprint(place);
-    if number >= u64::from(shape.range().get()) {
-        return None;
-    }
-    Some(number as u32)
+    let range = shape.range().get();
+    u32::try_from(shape.fingerprint(place))
+        .ok()
+        .filter(|fingerprint| *fingerprint < range)
 }
 
 // Seats the entry in the last row of a bucket in the rows below, if there is one, and empties its seat. `lower` is the shape
-// with one row fewer. False where the entry has no seat there.
+// with one row fewer. Refused where the entry has no seat there.
 fn lower_entry<T: Tally + Copy>(
     seats: &mut [Seat<T>],
     shape: Shape,
     lower: Shape,
     bucket: u32,
     words: &mut [u32],
-) -> bool
+) -> Result<(), Refusal>
     requires sizes { (length seats.old ≡ shape.buckets * shape.most) × (2 * shape.buckets ≤ length words.old) × (bucket < shape.buckets) }
     requires lower { (1 < shape.rows) × (size lower ≡ narrower (size shape)) }
     ensures { Lowered T.Tally.kind.empty seats.old seats.new (size shape) bucket result }
@@ -43,23 +42,17 @@ fn lower_entry<T: Tally + Copy>(
     let i = (bucket * shape.most + (shape.rows - 1)) as usize;
     let seat = seats[i];
     if seat.tally.is_empty() {
-        return true;
+        return Ok(());
     }
-    let place_of = Place {
+    let held_at = Place {
         bucket,
         carry: seat.carry,
         flag: seat.flag,
     };
-    let Some(fingerprint) = fingerprint_at(shape, place_of) else {
-        return false;
-    };
-    match place(seats, lower, fingerprint, seat.tally, words) {
-        Ok(()) => {
-            let _tally = vacate(seats, i);
-            true
-        }
-        Err(_) => false,
-    }
+    let fingerprint = fingerprint_at(shape, held_at).ok_or(Refusal::NoNarrowSeating)?;
+    place(seats, lower, fingerprint, seat.tally, words).map_err(|_| Refusal::NoNarrowSeating)?;
+    vacate(seats, i);
+    Ok(())
 }
 
 // Clears the last row in use, and gives the shape with one row fewer. Entries may have moved also where the call is refused.
@@ -86,9 +79,7 @@ pub fn clear_last_row<T: Tally + Copy>(
         rows: shape.rows - 1,
     };
     for bucket in 0..shape.buckets {
-        if !lower_entry(seats, shape, lower, bucket, words) {
-            return Err(Refusal::NoNarrowSeating);
-        }
+        lower_entry(seats, shape, lower, bucket, words)?;
     }
     Ok(lower)
 }

@@ -17,9 +17,6 @@ none_since : {A : Type 0} (o : Option A) → ((x : A) → o ≡ Some x → ⊥) 
 none_since None h = refl
 none_since (Some x) h = absurd (h x refl)
 
-not_some : {A : Type 0} (o : Option A) (x : A) → o ≡ None → o ≡ Some x → ⊥
-not_some o x p q = let z : ◌≡◌ {A = ℕ} 0 1 = cc in omega arith
-
 module _ {X : Type 0} (e : X) {z : Size} (sound : Sound z) where
   -- what sits in a seat sits there in other seats that have it alike
   pub sits_kept : (xs ys : List (Seat X)) (f i : ℕ) → at e xs i ≡ at e ys i → Sits e xs z f i → Sits e ys z f i
@@ -169,7 +166,7 @@ module _ {X : Type 0} (e : X) {z : Size} (sound : Sound z) where
       told = λ g j t. other_told g j None (λ is. t.filled (empty_here j is)) t;
       seated = λ g t is.
           ⊎_elim
-          (λ same. absurd (not_some (changed entries f None g) t (cond-true (eqb g f) None (entries g) (eq-eqb g f same)) is))
+          (λ same. absurd (cc (is, cond-true (eqb g f) None (entries g) (eq-eqb g f same))))
           (λ apart. other_seated g None t is apart)
           (cases_eq g f);
       alone = λ g j k t u. shows.alone g j k (older g j (λ is. t.filled (empty_here j is)) t) (older g k (λ is. u.filled (empty_here k is)) u);

@@ -1,36 +1,52 @@
 // Finding a seat: the one that holds a fingerprint, or an empty one of a bucket.
-ghost use Rattle.std.specs.Prelude.{ℕ, ◌+◌, ◌*◌, ◌<◌, Decides, MatchOption};
+ghost use Rattle.std.specs.Prelude.{◌≡◌, ℕ, ◌+◌, ◌*◌, ◌<◌, Decides, MatchOption, length, true, false};
+ghost use Rattle.std.specs.Fn.{FnReturnsAt};
 ghost use Rattle.seats.specs.Shapes.{size};
-ghost use Rattle.seats.specs.Seats.{Free, Holds, Lies, Sits};
+ghost use Rattle.seats.specs.Places.{place_of};
+ghost use Rattle.seats.specs.Seats.{at, Free, Holds, Lies, Sits};
 
-use crate::place::Place;
 use crate::seat::Seat;
 use crate::shape::Shape;
 use tallies::tally::Tally;
 
-// Whether there is a seat `i` that is filled, with the place's carry and flag.
-fn holds<T: Tally + Copy>(seats: &[Seat<T>], i: usize, place: Place) -> bool
-    ensures { Decides result (Holds T.Tally.kind.empty seats.now place i) }
-{
-    if i >= seats.len() {
-        return false;
-    }
-    seats[i].carry == place.carry && seats[i].flag == place.flag && !seats[i].tally.is_empty()
-}
-
-// The first seat among the rows in use of the place's bucket that is filled, with the place's carry and flag.
-fn scan<T: Tally + Copy>(seats: &[Seat<T>], shape: Shape, place: Place) -> Option<usize>
+// The first seat among the rows in use of a bucket, as far as there are seats, that passes the test.
+fn first_seat<T: Tally + Copy, F: Fn(&Seat<T>) -> bool>(
+    seats: &[Seat<T>],
+    shape: Shape,
+    bucket: u32,
+    test: F,
+) -> Option<usize>
+    requires { F.IsAlwaysCallable test }
     ensures { MatchOption result
-        ((i : ℕ) → Lies (size shape) place.bucket i → Holds T.Tally.kind.empty seats.now place i → ⊥)
-        (λ i. Lies (size shape) place.bucket i × Holds T.Tally.kind.empty seats.now place i) }
+        ((i : ℕ) → Lies (size shape) bucket i → i < length seats.now → FnReturnsAt F.Fn test (at T.Tally.kind.empty seats.now i) false)
+        (λ i. Lies (size shape) bucket i × (i < length seats.now) × FnReturnsAt F.Fn test (at T.Tally.kind.empty seats.now i) true) }
 {
-    let first = place.bucket as usize * shape.most as usize;
-    for row in 0..shape.rows as usize {
-        if holds(seats, first + row, place) {
-            return Some(first + row);
+    let first = bucket as usize * shape.most as usize;
+    let end = seats.len().min(first + shape.rows as usize);
+    for i in first..end {
+        if test(&seats[i]) {
+            return Some(i);
         }
     }
     None
+}
+
+// The seat that holds the fingerprint at this flag: among the rows in use of its place's bucket, filled, with the place's
+// carry and flag.
+fn seat_at<T: Tally + Copy>(
+    seats: &[Seat<T>],
+    shape: Shape,
+    fingerprint: u32,
+    flag: bool,
+) -> Option<usize>
+    ensures { let place = place_of shape.buckets fingerprint flag in MatchOption result
+        ((i : ℕ) → Lies (size shape) place.bucket i → Holds T.Tally.kind.empty seats.now place i → ⊥)
+        (λ i. Lies (size shape) place.bucket i × Holds T.Tally.kind.empty seats.now place i) }
+{
+    let place = shape.place(fingerprint, flag);
+    first_seat(seats, shape, place.bucket, |seat| {
+        seat.carry == place.carry && seat.flag == place.flag && !seat.tally.is_empty()
+    })
 }
 
 // The seat that holds the fingerprint, looked for in both of its buckets.
@@ -42,20 +58,7 @@ pub fn find<T: Tally + Copy>(seats: &[Seat<T>], shape: Shape, fingerprint: u32) 
     if fingerprint >= shape.range().get() {
         return None;
     }
-    if let Some(i) = scan(seats, shape, shape.place(fingerprint, true)) {
-        return Some(i);
-    }
-    scan(seats, shape, shape.place(fingerprint, false))
-}
-
-// Whether there is a seat `i` that is empty.
-fn is_free<T: Tally + Copy>(seats: &[Seat<T>], i: usize) -> bool
-    ensures { Decides result (Free T.Tally.kind.empty seats.now i) }
-{
-    if i >= seats.len() {
-        return false;
-    }
-    seats[i].tally.is_empty()
+    seat_at(seats, shape, fingerprint, true).or_else(|| seat_at(seats, shape, fingerprint, false))
 }
 
 // An empty seat among the rows in use of a bucket, if there is one.
@@ -64,11 +67,5 @@ pub fn free_seat<T: Tally + Copy>(seats: &[Seat<T>], shape: Shape, bucket: u32) 
         ((i : ℕ) → Lies (size shape) bucket i → Free T.Tally.kind.empty seats.now i → ⊥)
         (λ i. Lies (size shape) bucket i × Free T.Tally.kind.empty seats.now i) }
 {
-    let first = bucket as usize * shape.most as usize;
-    for row in 0..shape.rows as usize {
-        if is_free(seats, first + row) {
-            return Some(first + row);
-        }
-    }
-    None
+    first_seat(seats, shape, bucket, |seat| seat.tally.is_empty())
 }

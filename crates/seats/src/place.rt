@@ -5,7 +5,7 @@ use crate::shape::Shape;
 
 // A fingerprint's place in a bucket: at flag true the bucket is its quotient by the buckets and the carry its remainder,
 // at flag false the bucket is the remainder and the carry the quotient.
-#[derive(Clone, Copy)]
+#[derive(Clone, Copy, PartialEq, Eq, Debug)]
 pub struct Place {
     pub bucket: u32,
     pub carry: u32,

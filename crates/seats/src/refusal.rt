@@ -5,29 +5,29 @@ ghost use Rattle.seats.specs.Refusals.{refusal_number};
 #[derive(Clone, Copy, PartialEq, Eq, Debug)]
 pub enum Refusal {
     // the buckets are not 2 to 4,096
-    Buckets,
+    Buckets = 1,
     // the most rows are not 1 to 8, or the rows not 1 to the most
-    Rows,
+    Rows = 2,
     // the seats lent are not as many as the buckets times the most rows
-    Seats,
+    Seats = 3,
     // the work words lent are fewer than two for each bucket
-    Words,
+    Words = 4,
     // the key is over 64 bytes
-    LongKey,
+    LongKey = 5,
     // what is posted or reversed is no amount
-    NoAmount,
+    NoAmount = 6,
     // the joined tally would pass its ceiling
-    Ceiling,
+    Ceiling = 7,
     // what is held has no seating together with the fingerprint posted
-    NoSeating,
+    NoSeating = 8,
     // the fingerprint to be reversed or erased is not held
-    NotHeld,
+    NotHeld = 9,
     // no value joins with the amount to the one held
-    NotTakenBack,
+    NotTakenBack = 10,
     // there is no row to add, or but one row
-    RowLimit,
+    RowLimit = 11,
     // what is held has no seating in one row fewer
-    NoNarrowSeating,
+    NoNarrowSeating = 12,
 }
 
 impl Refusal {
@@ -35,19 +35,6 @@ impl Refusal {
     pub fn number(self) -> u8
         ensures { result ≡ refusal_number self }
     {
-        match self {
-            Refusal::Buckets => 1,
-            Refusal::Rows => 2,
-            Refusal::Seats => 3,
-            Refusal::Words => 4,
-            Refusal::LongKey => 5,
-            Refusal::NoAmount => 6,
-            Refusal::Ceiling => 7,
-            Refusal::NoSeating => 8,
-            Refusal::NotHeld => 9,
-            Refusal::NotTakenBack => 10,
-            Refusal::RowLimit => 11,
-            Refusal::NoNarrowSeating => 12,
-        }
+        self as u8
     }
 }

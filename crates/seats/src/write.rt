@@ -18,20 +18,7 @@ pub fn retally<T: Tally + Copy>(seats: &mut [Seat<T>], i: usize, tally: T)
     requires { i < length seats.old }
     ensures { seats.new ≡ slice_set seats.old i (seat (at T.Tally.kind.empty seats.old i).carry (at T.Tally.kind.empty seats.old i).flag tally) }
 {
-    let carry = seats[i].carry;
-    let flag = seats[i].flag;
-    seats[i] = Seat { carry, flag, tally };
-}
-
-// An empty seat.
-fn empty_seat<T: Tally>() -> Seat<T>
-    ensures { result ≡ vacant T.Tally.kind.empty }
-{
-    Seat {
-        carry: 0,
-        flag: false,
-        tally: T::empty(),
-    }
+    seats[i] = Seat { tally, ..seats[i] };
 }
 
 // Empties the seat `i`, and gives the tally that it had.
@@ -41,7 +28,7 @@ pub fn vacate<T: Tally + Copy>(seats: &mut [Seat<T>], i: usize) -> T
     ensures after { seats.new ≡ slice_set seats.old i (vacant T.Tally.kind.empty) }
 {
     let tally = seats[i].tally;
-    seats[i] = empty_seat();
+    seats[i] = Seat::empty();
     tally
 }
 
@@ -49,7 +36,7 @@ pub fn vacate<T: Tally + Copy>(seats: &mut [Seat<T>], i: usize) -> T
 pub fn vacate_all<T: Tally + Copy>(seats: &mut [Seat<T>])
     ensures { seats.new ≡ replicate (length seats.old) (vacant T.Tally.kind.empty) }
 {
-    for i in 0..seats.len() {
-        seats[i] = empty_seat();
+    for seat in seats.iter_mut() {
+        *seat = Seat::empty();
     }
 }

@@ -1,15 +1,16 @@
-use Rattle.std.proofs.Common.{◌≡◌, ℕ, ◌+◌, ◌-◌, ◌*◌, ◌<◌, Bool, true, false, length, sym, refl, subst, arith, rules}
-use Rattle.std.proofs.lemmas.List.{get_or_read}
+use Rattle.std.proofs.Common.{◌≡◌, ◌+◌, ◌-◌, ◌*◌, ◌<◌, false, length, Some, None, Ok, Err, Result, is_ok, sym, refl, subst, arith, rules}
 use Rattle.moves.specs.Placed.{Accepted, Refused, bar}
-use Rattle.seats.specs.Shapes.{Size, size}
-use Rattle.seats.specs.Seats.{at, vacant}
+use Rattle.seats.specs.declared.refusal.Refusal.{Refusal}
+use Rattle.seats.specs.declared.refusal.Refusal.TheVariants.{NoNarrowSeating}
+use Rattle.seats.specs.Shapes.{Size}
 use Rattle.seats.proofs.Sitting.{shape_sound}
-use Rattle.narrowing.specs.Narrowed.{last_seat}
-use Rattle.narrowing.proofs.Lowering.{inside, nothing_there, no_fingerprint, no_seat, seat_below}
+use Rattle.narrowing.proofs.Lowering.{inside, no_fingerprint, no_seat, seat_below}
 use Rattle.narrowing.proofs.lower_entry.Goals as goal
 
-not_both : (b : Bool) → b ≡ true → b ≡ false → ⊥
-not_both b p q = let z : ◌≡◌ {A = ℕ} 0 1 = cc in omega arith
+-- a call that gave no value was refused
+refused_since : (r : Result (Unit {0}) Refusal) → is_ok r ≡ false → (why : Refusal) × (r ≡ Err why)
+refused_since (Ok x) is = absurd (cc)
+refused_since (Err why) is = (why, refl)
 
 pub offset_bounds-seats-i : goal.offset_bounds-seats-i
 offset_bounds-seats-i g c =
@@ -19,57 +20,41 @@ offset_bounds-seats-i g c =
 pub bounds-seats-i : goal.bounds-seats-i
 bounds-seats-i g c = omega (arith, inside g.T.Tally.kind.empty (shape_sound c.args.shape) c.requires.lower.0 c.args.bucket c.requires.sizes.2)
 
-pub vacate-tally-requires : goal.vacate-tally-requires
-vacate-tally-requires g c = omega (arith, inside g.T.Tally.kind.empty (shape_sound c.args.shape) c.requires.lower.0 c.args.bucket c.requires.sizes.2)
-
-pub returns-then-is_empty : goal.returns-then-is_empty
-returns-then-is_empty g c =
+pub returns-in_err-fingerprint : goal.returns-in_err-fingerprint
+returns-in_err-fingerprint g c =
     let k = g.T.Tally.kind in
-    let sound = shape_sound c.args.shape in
-    let xs = c.args.seats.now in
-    let i = last_seat (size c.args.shape) c.args.bucket in
-    let low : i < length xs = omega (arith, inside k.empty sound c.requires.lower.0 c.args.bucket c.requires.sizes.2) in
-    let s = c.index-seats-i.result in
-    let read : s ≡ at k.empty xs i = get_or_read xs i s low c.index-seats-i.is (vacant k.empty) in
-    nothing_there k.empty sound c.requires.lower.0 k refl g.met.T.Tally.lawful xs c.args.bucket c.requires.sizes.2 s read
-    ((g.met.T.Tally.lawful.empty_told s.tally).0 (sym c.if-is_empty.ensures.value))
+    let none : c.fingerprint_at.result ≡ None = search rules in
+    let refused : c.from_residual.result ≡ Err NoNarrowSeating = search rules in
+    rw refused (no_fingerprint k.empty (shape_sound c.args.shape) c.requires.lower.0 k refl g.met.T.Tally.lawful c.args.seats.now c.requires.sizes.0 c.args.bucket c.requires.sizes.2
+    c.index-seats-i.result c.index-seats-i.is (sym c.if-is_empty.ensures.value) (rw none at c.fingerprint_at.ensures))
 
-pub returns-in_default : goal.returns-in_default
-returns-in_default g c =
+pub returns-in_err-map_err : goal.returns-in_err-map_err
+returns-in_err-map_err g c =
     let k = g.T.Tally.kind in
-    let sound = shape_sound c.args.shape in
     let xs = c.args.seats.now in
-    let i = last_seat (size c.args.shape) c.args.bucket in
-    let low : i < length xs = omega (arith, inside k.empty sound c.requires.lower.0 c.args.bucket c.requires.sizes.2) in
     let s = c.index-seats-i.result in
-    let read : s ≡ at k.empty xs i = get_or_read xs i s low c.index-seats-i.is (vacant k.empty) in
-    let some : s.tally ≡ k.empty → ⊥ = λ is. not_both (k.is_empty s.tally) ((g.met.T.Tally.lawful.empty_told s.tally).1 is) (sym c.if-is_empty.ensures.value) in
-    no_fingerprint k.empty sound c.requires.lower.0 k refl g.met.T.Tally.lawful xs c.args.bucket c.requires.sizes.2 s read some c.in_default.ensures
+    let f = c.in_ok-fingerprint.fingerprint in
+    let found : c.fingerprint_at.result ≡ Some f = search rules in
+    let given = rw found at c.fingerprint_at.ensures in
+    let unseated : is_ok c.place.result ≡ false = search rules in
+    let (why, is) = refused_since c.place.result unseated in
+    let placed = rw is at c.place.ensures.placed in
+    let told = rw is at c.map_err.ensures.cases in
+    let refused : c.from_residual-in_err-map_err.result ≡ Err NoNarrowSeating = search rules in
+    let unplaced = subst (λ (z : Size). Refused k.empty xs c.place.new.seats z f (bar k xs z s.tally (length c.args.words.now)) why) c.requires.lower.1 placed in
+    rw refused (no_seat k.empty (shape_sound c.args.shape) c.requires.lower.0 k refl g.met.T.Tally.lawful xs c.requires.sizes.0 c.args.bucket c.requires.sizes.2
+    s c.index-seats-i.is (sym c.if-is_empty.ensures.value) f given.0 c.place.new.seats (length c.args.words.now) why c.requires.sizes.1 unplaced)
 
-pub returns-in-Err : goal.returns-in-Err
-returns-in-Err g c =
+pub returns : goal.returns
+returns g c =
     let k = g.T.Tally.kind in
-    let sound = shape_sound c.args.shape in
     let xs = c.args.seats.now in
-    let i = last_seat (size c.args.shape) c.args.bucket in
-    let low : i < length xs = omega (arith, inside k.empty sound c.requires.lower.0 c.args.bucket c.requires.sizes.2) in
     let s = c.index-seats-i.result in
-    let read : s ≡ at k.empty xs i = get_or_read xs i s low c.index-seats-i.is (vacant k.empty) in
-    let some : s.tally ≡ k.empty → ⊥ = λ is. not_both (k.is_empty s.tally) ((g.met.T.Tally.lawful.empty_told s.tally).1 is) (sym c.if-is_empty.ensures.value) in
-    let refused = subst (λ (z : Size). Refused k.empty xs c.place.new.seats z c.in-Some.fingerprint (bar k xs z s.tally (length c.args.words.now)) c.in-Err.field-0) c.requires.lower.1 c.in-Err.ensures.placed in
-    no_seat k.empty sound c.requires.lower.0 k refl g.met.T.Tally.lawful xs c.args.bucket c.requires.sizes.2 s read some
-    c.in-Some.fingerprint c.in-Some.ensures.0 c.place.new.seats (length c.args.words.now) c.in-Err.field-0 c.requires.sizes.0 c.requires.sizes.1 refused
-
-pub returns-in-Ok : goal.returns-in-Ok
-returns-in-Ok g c =
-    let k = g.T.Tally.kind in
-    let sound = shape_sound c.args.shape in
-    let xs = c.args.seats.now in
-    let i = last_seat (size c.args.shape) c.args.bucket in
-    let low : i < length xs = omega (arith, inside k.empty sound c.requires.lower.0 c.args.bucket c.requires.sizes.2) in
-    let s = c.index-seats-i.result in
-    let read : s ≡ at k.empty xs i = get_or_read xs i s low c.index-seats-i.is (vacant k.empty) in
-    let some : s.tally ≡ k.empty → ⊥ = λ is. not_both (k.is_empty s.tally) ((g.met.T.Tally.lawful.empty_told s.tally).1 is) (sym c.if-is_empty.ensures.value) in
-    let accepted = subst (λ (z : Size). Accepted k.empty xs c.place.new.seats z c.in-Some.fingerprint s.tally) c.requires.lower.1 c.in-Ok.ensures.placed.1 in
-    seat_below k.empty sound c.requires.lower.0 k refl g.met.T.Tally.lawful xs c.args.bucket c.requires.sizes.2 s read some
-    c.in-Some.fingerprint c.in-Some.ensures.0 c.place.new.seats c.vacate-tally.new.seats (omega (arith, c.place.auto.seats)) accepted c.vacate-tally.ensures.after
+    let f = c.in_ok-fingerprint.fingerprint in
+    let found : c.fingerprint_at.result ≡ Some f = search rules in
+    let given = rw found at c.fingerprint_at.ensures in
+    let seated : c.place.result ≡ Ok tt = search rules in
+    let placed = rw seated at c.place.ensures.placed in
+    let accepted = subst (λ (z : Size). Accepted k.empty xs c.place.new.seats z f s.tally) c.requires.lower.1 placed.1 in
+    seat_below k.empty (shape_sound c.args.shape) c.requires.lower.0 k refl g.met.T.Tally.lawful xs c.requires.sizes.0 c.args.bucket c.requires.sizes.2
+    s c.index-seats-i.is (sym c.if-is_empty.ensures.value) f given.0 c.place.new.seats c.vacate.new.seats c.place.auto.seats accepted c.vacate.ensures.after

@@ -11,10 +11,10 @@ impl Shape {
     pub fn check(buckets: u32, most: u32, rows: u32, seats: usize) -> Result<Shape, Refusal>
         ensures { Checked buckets most rows seats result }
     {
-        if buckets < 2 || buckets > 4096 {
+        if !(2..=4096).contains(&buckets) {
             return Err(Refusal::Buckets);
         }
-        if most < 1 || most > 8 || rows < 1 || rows > most {
+        if !(1..=8).contains(&most) || !(1..=most).contains(&rows) {
             return Err(Refusal::Rows);
         }
         if seats != (buckets * most) as usize {
