@@ -1,5 +1,5 @@
 -- The figures by which each fault of a block is told, and faults passed on. Assumes nothing.
-use Rattle.std.specs.Prelude.{ℕ, Ok, Err, Result}
+use Rattle.std.specs.Prelude.{Ok, Err, Result}
 use Rattle.blocks.specs.declared.fault.BlockFault.{BlockFault}
 use Rattle.blocks.specs.declared.fault.BlockFault.TheVariants.{Check, Header, Record}
 use Rattle.blocks.specs.declared.fault.Figures.{Figures}

@@ -13,14 +13,14 @@ unfolding block_checked
 returns-then-not-front_fits c = search rules
 
 pub check_records-requires : goal.check_records-requires
-check_records-requires c = (c.requires, (front_tells c.args.first c.args.place c.args.last c.args.block.now (sym c.if-not-front_fits.ensures)).few)
+check_records-requires c = (front_tells c.args.first c.args.place c.args.last c.args.block.now (sym c.if-not-front_fits.ensures)).few
 
 pub returns-in_err-check_records : goal.returns-in_err-check_records
 unfolding block_checked
 returns-in_err-check_records c = let p = err_from_is_err_and c.from_residual.result c.from_residual.ensures.1 in rw (p.1, p.2) (search rules)
 
 pub check_zeros-requires : goal.check_zeros-requires
-check_zeros-requires c = (c.requires, (front_tells c.args.first c.args.place c.args.last c.args.block.now (sym c.if-not-front_fits.ensures)).few)
+check_zeros-requires c = (front_tells c.args.first c.args.place c.args.last c.args.block.now (sym c.if-not-front_fits.ensures)).few
 
 pub returns-in_err-check_zeros : goal.returns-in_err-check_zeros
 unfolding block_checked
