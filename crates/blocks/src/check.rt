@@ -6,6 +6,7 @@ use crate::block::{BLOCK, BODY};
 use numbers::fnv::fnv1a;
 use numbers::little_endian::{read, write};
 
+#[tactic(auto, unfolding(crate::specs::Blocks::check_holds))]
 pub fn check_holds(block: &[u8; BLOCK]) -> bool
     ensures { result ≡ check_holds block.now }
 {

@@ -22,13 +22,14 @@ fn count_fits(last: bool, count: u8) -> bool
     ensures { result ≡ count_fits last count }
 {
     if last {
-        count >= 1 && count <= FULL_COUNT
+        (1..=FULL_COUNT).contains(&count)
     } else {
         count == FULL_COUNT
     }
 }
 
 // Whether the header fits and is the first block's, and the count and the place are right.
+#[tactic(auto, unfolding(crate::specs::Checks::front_fits))]
 fn front_fits(block: &[u8; BLOCK], first: Header, place: u8, last: bool) -> bool
     ensures { result ≡ front_fits first place last block.now }
 {
@@ -90,6 +91,7 @@ fn check_zeros(block: &[u8; BLOCK], place: u8) -> Result<(), RecordFault>
 }
 
 // Checks the block in a place, against the header of the first.
+#[tactic(auto, unfolding(crate::specs::Checks::block_checked))]
 pub(crate) fn check_block(
     block: &[u8; BLOCK],
     first: Header,

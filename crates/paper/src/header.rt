@@ -32,6 +32,7 @@ impl Header {
     }
 
     // The fields keep their limits, and the rule and the kind are known.
+    #[tactic(auto, unfolding(crate::specs::Headers::header_fits))]
     pub fn fits(self) -> bool
         ensures { result ≡ header_fits self }
     {
@@ -42,11 +43,7 @@ impl Header {
     fn shape_fits(self) -> bool
         ensures { result ≡ shape_fits self }
     {
-        self.buckets >= 2
-            && self.buckets <= 256
-            && self.most <= 8
-            && self.rows >= 1
-            && self.rows <= self.most
+        (2..=256).contains(&self.buckets) && self.most <= 8 && (1..=self.most).contains(&self.rows)
     }
 }
 

@@ -115,6 +115,7 @@ impl Record {
     }
 
     // What the call does not take is zero, and a paper of replicas has no octets.
+    #[tactic(auto, unfolding(crate::specs::Records::record_fits))]
     pub fn fits(self, kind: u8) -> bool
         ensures value { result ≡ record_fits kind self }
         ensures held { Held self }
