@@ -2,7 +2,7 @@
 use Rattle.std.proofs.Common.{◌≡◌, ℕ, zero, suc, ◌+◌, ◌-◌, ◌*◌, ◌<◌, ◌≤◌, List, [], ◌∷◌, ◌++◌, map, length, get_or, take, drop, sym, refl, ap, ◌∙◌, append_assoc, append-nil, arith, length-append, length-drop, length-take, take-add}
 use Rattle.std.specs.List.{flat_map, AllByRecursion}
 use Rattle.std.proofs.ByRecursion.{All-take, All-drop}
-use Rattle.std.proofs.lemmas.List.{drop-drop, take_all, take_at, drop_at}
+use Rattle.std.proofs.lemmas.List.{drop-drop, drop-take, take-take, take_all, take_at, drop_at}
 use Rattle.blocks.specs.Pieces.{pieces}
 
 -- the pieces from the i-th on, one step further
@@ -31,6 +31,15 @@ joined_pieces width zero xs = let none : 0 ≡ width * 0 = omega arith in ap (λ
 joined_pieces width (suc n) xs =
     let long : width + width * n ≡ width * suc n = omega arith in
     ap (λ l. take width xs ++ l) (joined_pieces width n (drop width xs)) ∙ sym (take-add width (width * n) xs) ∙ ap (λ k. take k xs) long
+
+-- what lies behind the pieces does not matter
+pub pieces_take : {X : Type 0} (width n : ℕ) (xs : List X) → pieces width n (take (width * n) xs) ≡ pieces width n xs
+pieces_take width zero xs = refl
+pieces_take width (suc n) xs =
+    let long : width * suc n ≡ width + width * n = omega arith in
+    ap (λ k. pieces width (suc n) (take k xs)) long
+    ∙ (λ i. take-take width (width + width * n) xs (omega arith) i ∷ pieces width n (drop-take width (width * n) xs i))
+    ∙ ap (λ l. take width xs ∷ l) (pieces_take width n (drop width xs))
 
 pub pieces_even : {X : Type 0} (width n : ℕ) (xs : List X) → width * n ≤ length xs → AllByRecursion (λ (p : List X). length p ≡ width) (pieces width n xs)
 pieces_even width zero xs room = tt

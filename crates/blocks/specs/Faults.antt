@@ -1,14 +1,15 @@
 -- The figures by which each fault of a block is told, and faults passed on. Assumes nothing.
-use Rattle.std.specs.Prelude.{ℕ, Ok, Err, Result}
+use Rattle.std.specs.Prelude.{Ok, Err, Result}
 use Rattle.blocks.specs.declared.fault.BlockFault.{BlockFault}
 use Rattle.blocks.specs.declared.fault.BlockFault.TheVariants.{Check, Header, Record}
+use Rattle.blocks.specs.declared.fault.Figures.{Figures}
 use Rattle.blocks.specs.declared.fault.RecordFault.{RecordFault}
 
 -- the fault's number, its block and its record
-abbrev pub figures_of : BlockFault → ℕ × ℕ × ℕ
-figures_of (Check block) = (14, block, 0)
-figures_of (Header block) = (15, block, 0)
-figures_of (Record block place) = (16, block, place)
+abbrev pub figures_of : BlockFault → Figures
+figures_of (Check block) = record { number = 14; block = block; «record» = 0 }
+figures_of (Header block) = record { number = 15; block = block; «record» = 0 }
+figures_of (Record block place) = record { number = 16; block = block; «record» = place }
 
 abbrev pub in_record : RecordFault → BlockFault
 in_record fault = Record fault.block fault.«record»

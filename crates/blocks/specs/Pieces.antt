@@ -1,7 +1,7 @@
 -- A list cut into pieces of one length. Assumes nothing.
-use Rattle.std.specs.Prelude.{ℕ, zero, suc, List, [], ◌∷◌, take, drop}
+use Rattle.std.specs.Prelude.{ℕ, List}
+use Rattle.std.specs.Simd.{first_chunks}
 
--- the first n pieces, one after another; the last may be shorter
+-- the first n pieces, one after another, as `as_chunks` gives them; the last may be shorter
 abbrev pub pieces : {X : Type 0} → ℕ → ℕ → List X → List (List X)
-pieces width zero xs = []
-pieces width (suc n) xs = take width xs ∷ pieces width n (drop width xs)
+pieces width n xs = first_chunks width n xs

@@ -1,23 +1,22 @@
 // The check of a block: the FNV-1a number of bytes 0 to 503, in bytes 504 to 511.
-ghost use Rattle.std.specs.Prelude.{◌≡◌, length, take};
+ghost use Rattle.std.specs.Prelude.{◌≡◌, take};
 ghost use Rattle.blocks.specs.Blocks.{check_holds, with_check};
 
-use crate::block::BODY;
+use crate::block::{BLOCK, BODY};
 use numbers::fnv::fnv1a;
-use numbers::little_endian::{read_u64, write_u64};
+use numbers::little_endian::{read, write};
 
-pub fn check_holds(block: &[u8]) -> bool
-    requires { length block.now ≡ 512 }
+#[tactic(auto, unfolding(crate::specs::Blocks::check_holds))]
+pub fn check_holds(block: &[u8; BLOCK]) -> bool
     ensures { result ≡ check_holds block.now }
 {
-    fnv1a(&block[0..BODY]) == read_u64(block, BODY)
+    fnv1a(&block[0..BODY]) == read(block, BODY)
 }
 
 // Writes the check of the bytes before it.
-pub fn write_check(block: &mut [u8])
-    requires { length block.old ≡ 512 }
+pub fn write_check(block: &mut [u8; BLOCK])
     ensures { block.new ≡ with_check (take 504 block.old) }
 {
     let check = fnv1a(&block[0..BODY]);
-    write_u64(block, BODY, check);
+    write(block, BODY, check);
 }

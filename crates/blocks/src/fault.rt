@@ -18,15 +18,35 @@ pub enum BlockFault {
     Record { block: u8, record: u8 },
 }
 
+// How a fault is told: its number, the block, and the record, or 0 where none is meant.
+#[derive(Clone, Copy, PartialEq, Eq, Debug)]
+pub struct Figures {
+    pub number: u8,
+    pub block: u8,
+    pub record: u8,
+}
+
 impl BlockFault {
-    // The fault's number, the block, and the record, or 0 where none is meant.
-    pub fn figures(self) -> (u8, u8, u8)
+    // The figures by which the fault is told.
+    pub fn figures(self) -> Figures
         ensures { result ≡ figures_of self }
     {
         match self {
-            BlockFault::Check { block } => (14, block, 0),
-            BlockFault::Header { block } => (15, block, 0),
-            BlockFault::Record { block, record } => (16, block, record),
+            BlockFault::Check { block } => Figures {
+                number: 14,
+                block,
+                record: 0,
+            },
+            BlockFault::Header { block } => Figures {
+                number: 15,
+                block,
+                record: 0,
+            },
+            BlockFault::Record { block, record } => Figures {
+                number: 16,
+                block,
+                record,
+            },
         }
     }
 }

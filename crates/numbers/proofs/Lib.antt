@@ -1,3 +1,1 @@
-mod Digits
 pub mod Puts
-mod Widths

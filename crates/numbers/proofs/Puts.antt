@@ -1,8 +1,9 @@
 -- Bytes put into a buffer, one piece after another. Assumes nothing.
-use Rattle.std.proofs.Common.{◌≡◌, ℕ, ◌+◌, ◌<◌, ◌≤◌, List, [], ◌∷◌, ◌++◌, length, take, drop, set, sym, ap, ◌∙◌, append_assoc, add-one, arith, length-append, length-drop}
+use Rattle.std.proofs.Common.{◌≡◌, ℕ, zero, suc, ◌+◌, ◌-◌, ◌/◌, ◌<◌, ◌≤◌, List, [], ◌∷◌, ◌++◌, length, take, drop, set, sym, refl, ap, ◌∙◌, append_assoc, add-one, arith, length-append}
 use borrow.Rule.Slice.PartMut.{put_mid}
 use Rattle.std.proofs.lemmas.List.{set_split, drop-drop, drop_at, take_at, length-take-le}
 use Rattle.numbers.specs.Buffers.{put}
+use Rattle.numbers.specs.LittleEndian.{bytes_of}
 
 -- one byte
 pub put_byte : (buffer : List ℕ) (place byte : ℕ) → place < length buffer → set buffer place byte ≡ put buffer place (byte ∷ [])
@@ -16,6 +17,14 @@ put_part buffer part bytes place width is long =
     ap (λ p. take place buffer ++ (p ++ drop width (drop place buffer))) is
     ∙ ap (λ t. take place buffer ++ (bytes ++ t)) (drop-drop width place buffer)
     ∙ ap (λ w. take place buffer ++ (bytes ++ drop (place + w) buffer)) long
+
+pub length_bytes_of : (width n : ℕ) → length (bytes_of width n) ≡ width
+length_bytes_of zero n = refl
+length_bytes_of (suc width) n = ap suc (length_bytes_of width (n / 256))
+
+-- what a write to the part from a place on leaves
+pub put_span : (buffer part bytes : List ℕ) (place width : ℕ) → part ≡ bytes → width ≡ length bytes → put_mid place (place + width - place) buffer part ≡ put buffer place bytes
+put_span buffer part bytes place width is long = put_part buffer part bytes place (place + width - place) is (omega arith)
 
 -- one piece, and another behind it
 pub put_put : (buffer xs ys : List ℕ) (place next : ℕ) → next ≡ place + length xs → next + length ys ≤ length buffer →
@@ -33,7 +42,3 @@ put_put buffer xs ys place next is room =
     (λ i. before i ++ (ys ++ behind i))
     ∙ append_assoc front xs (ys ++ drop (place + length (xs ++ ys)) buffer)
     ∙ ap (λ l. front ++ l) (sym (append_assoc xs ys (drop (place + length (xs ++ ys)) buffer)))
-
-pub length_put : (buffer bytes : List ℕ) (place : ℕ) → place + length bytes ≤ length buffer → length (put buffer place bytes) ≡ length buffer
-unfolding put
-length_put buffer bytes place room = simp (length-append, length-drop) (omega (arith, length-take-le place buffer (omega arith)))

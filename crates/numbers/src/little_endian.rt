@@ -1,60 +1,90 @@
 // Unsigned numbers of 2, 4 and 8 bytes, least byte first, at a place of a slice.
-ghost use Rattle.std.specs.Prelude.{◌≡◌, ◌+◌, ◌≤◌, length};
+ghost use Rattle.std.specs.Prelude.{◌≡◌, ◌+◌, ◌≤◌, ℕ, length};
 ghost use Rattle.numbers.specs.Buffers.{put};
-ghost use Rattle.numbers.specs.LittleEndian.{number_at, bytes_of};
+ghost use Rattle.numbers.specs.LittleEndian.{number, number_at, bytes_of};
 
-pub fn read_u16(bytes: &[u8], place: usize) -> u16
-    requires { place + 2 ≤ length bytes.now }
-    ensures { result ≡ number_at 2 bytes.now place }
-{
-    u16::from_le_bytes([bytes[place], bytes[place + 1]])
+// An unsigned number of so many bytes.
+pub trait LittleEndian {
+    const WIDTH: usize;
+
+    ghost WIDTH: { ℕ };
+
+    // What it is as a number.
+    ghost value: { Self → ℕ };
+
+    // The number in just its bytes.
+    fn from_bytes(bytes: &[u8]) -> Self
+        requires { length bytes.now ≡ WIDTH }
+        ensures { value result ≡ number bytes.now };
+
+    // Writes just its bytes.
+    fn put_bytes(self, bytes: &mut [u8])
+        requires { length bytes.old ≡ WIDTH }
+        ensures { bytes.new ≡ bytes_of WIDTH (value self) };
 }
 
-pub fn read_u32(bytes: &[u8], place: usize) -> u32
-    requires { place + 4 ≤ length bytes.now }
-    ensures { result ≡ number_at 4 bytes.now place }
-{
-    u32::from_le_bytes([
-        bytes[place],
-        bytes[place + 1],
-        bytes[place + 2],
-        bytes[place + 3],
-    ])
+impl LittleEndian for u16 {
+    const WIDTH: usize = 2;
+
+    ghost WIDTH = { 2 };
+
+    ghost value = { λ n. n };
+
+    fn from_bytes(bytes: &[u8]) -> u16 {
+        u16::from_le_bytes([bytes[0], bytes[1]])
+    }
+
+    fn put_bytes(self, bytes: &mut [u8]) {
+        bytes.copy_from_slice(&u16::to_le_bytes(self));
+    }
 }
 
-pub fn read_u64(bytes: &[u8], place: usize) -> u64
-    requires { place + 8 ≤ length bytes.now }
-    ensures { result ≡ number_at 8 bytes.now place }
-{
-    u64::from_le_bytes([
-        bytes[place],
-        bytes[place + 1],
-        bytes[place + 2],
-        bytes[place + 3],
-        bytes[place + 4],
-        bytes[place + 5],
-        bytes[place + 6],
-        bytes[place + 7],
-    ])
+impl LittleEndian for u32 {
+    const WIDTH: usize = 4;
+
+    ghost WIDTH = { 4 };
+
+    ghost value = { λ n. n };
+
+    fn from_bytes(bytes: &[u8]) -> u32 {
+        u32::from_le_bytes([bytes[0], bytes[1], bytes[2], bytes[3]])
+    }
+
+    fn put_bytes(self, bytes: &mut [u8]) {
+        bytes.copy_from_slice(&u32::to_le_bytes(self));
+    }
 }
 
-pub fn write_u16(bytes: &mut [u8], place: usize, n: u16)
-    requires { place + 2 ≤ length bytes.old }
-    ensures { bytes.new ≡ put bytes.old place (bytes_of 2 n) }
-{
-    bytes[place..place + 2].copy_from_slice(&n.to_le_bytes());
+impl LittleEndian for u64 {
+    const WIDTH: usize = 8;
+
+    ghost WIDTH = { 8 };
+
+    ghost value = { λ n. n };
+
+    fn from_bytes(bytes: &[u8]) -> u64 {
+        u64::from_le_bytes([
+            bytes[0], bytes[1], bytes[2], bytes[3], bytes[4], bytes[5], bytes[6], bytes[7],
+        ])
+    }
+
+    fn put_bytes(self, bytes: &mut [u8]) {
+        bytes.copy_from_slice(&u64::to_le_bytes(self));
+    }
 }
 
-pub fn write_u32(bytes: &mut [u8], place: usize, n: u32)
-    requires { place + 4 ≤ length bytes.old }
-    ensures { bytes.new ≡ put bytes.old place (bytes_of 4 n) }
+// The number at a place of the slice.
+pub fn read<N: LittleEndian>(bytes: &[u8], place: usize) -> N
+    requires { place + N.WIDTH ≤ length bytes.now }
+    ensures { N.value result ≡ number_at N.WIDTH bytes.now place }
 {
-    bytes[place..place + 4].copy_from_slice(&n.to_le_bytes());
+    N::from_bytes(&bytes[place..place + N::WIDTH])
 }
 
-pub fn write_u64(bytes: &mut [u8], place: usize, n: u64)
-    requires { place + 8 ≤ length bytes.old }
-    ensures { bytes.new ≡ put bytes.old place (bytes_of 8 n) }
+// Writes the number at a place of the slice.
+pub fn write<N: LittleEndian>(bytes: &mut [u8], place: usize, n: N)
+    requires { place + N.WIDTH ≤ length bytes.old }
+    ensures { bytes.new ≡ put bytes.old place (bytes_of N.WIDTH (N.value n)) }
 {
-    bytes[place..place + 8].copy_from_slice(&n.to_le_bytes());
+    n.put_bytes(&mut bytes[place..place + N::WIDTH]);
 }

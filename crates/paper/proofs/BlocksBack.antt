@@ -1,5 +1,5 @@
 -- A sound block, read and written again. Assumes nothing.
-use Rattle.std.proofs.Common.{◌≡◌, ℕ, suc, ◌+◌, ◌-◌, ◌*◌, ◌<◌, ◌≤◌, Bool, true, false, cond, eqb, List, [], ◌∷◌, ◌++◌, length, get_or, take, drop, replicate, Some, None, Ok, Option, sym, refl, ap, ◌∙◌, append_assoc, arith, length-drop, length-take, take-add}
+use Rattle.std.proofs.Common.{◌≡◌, ℕ, ◌+◌, ◌-◌, ◌*◌, ◌<◌, ◌≤◌, Bool, true, false, cond, not, eqb, List, [], ◌∷◌, ◌++◌, length, get_or, take, drop, replicate, Some, None, Ok, Option, sym, refl, ap, ◌∙◌, append_assoc, arith, length-drop, length-take, take-add}
 use lib.ListN.{length-map}
 use Rattle.std.specs.List.{flat_map}
 use Rattle.std.proofs.lemmas.List.{drop-drop, drop_more}
@@ -11,10 +11,11 @@ use Rattle.blocks.proofs.Checks.{check_written_back}
 use Rattle.blocks.proofs.Pieces.{joined_pieces, length_pieces, pieces_even}
 use Rattle.paper.specs.Headers.{header_bytes, header_of, same_header}
 use Rattle.paper.specs.Records.{first_nonzero, record_bytes, record_of}
-use Rattle.paper.specs.Checks.{stray}
+use Rattle.paper.specs.Checks.{records_checked, stray}
 use Rattle.paper.specs.Reading.{block_records}
 use Rattle.paper.specs.Writing.{block_body, block_bytes}
 use Rattle.paper.specs.declared.header.Header.{Header}
+use Rattle.paper.proofs.Parts.{length_filter_map, parts_whole, whole_of}
 use Rattle.paper.proofs.RecordsBack.{records_back}
 use Rattle.paper.proofs.Sound.{SoundBlock}
 
@@ -43,15 +44,15 @@ front_back block long each =
     ∙ ap (λ l. take 2 block ++ take 6 l) (sym rest)
     ∙ sym (take-add 2 6 block)
 
-none_tells : (b : Bool) (o : Option ℕ) (k : ℕ) → cond b o (Some k) ≡ None → (b ≡ true) × (o ≡ None)
+none_tells : (b : Bool) (o : Option ℕ) (k : ℕ) → cond (not b) (Some k) o ≡ None → (b ≡ true) × (o ≡ None)
 none_tells true o k is = (refl, is)
 none_tells false o k is = let z : ◌≡◌ {A = ℕ} 0 1 = cc in absurd (omega arith)
 
 zeros_back : (bytes : List ℕ) (k : ℕ) → first_nonzero k bytes ≡ None → bytes ≡ replicate (length bytes) 0
 zeros_back [] k none = refl
 zeros_back (b ∷ bs) k none =
-    let p = none_tells (eqb b 0) (first_nonzero (suc k) bs) k none in
-    let rest = zeros_back bs (suc k) p.1 in
+    let p = none_tells (eqb b 0) (first_nonzero (k + 1) bs) k none in
+    let rest = zeros_back bs (k + 1) p.1 in
     λ i. eqb-true b 0 p.0 i ∷ rest i
 
 stray_none : (place from : ℕ) (o : Option ℕ) → stray place from o ≡ Ok tt → o ≡ None
@@ -66,8 +67,18 @@ whole_body block n few =
     ∙ ap (λ l. take 8 block ++ l) (sym (take-add (26 * n) (504 - (8 + 26 * n)) (drop 8 block)) ∙ ap (λ m. take m (drop 8 block)) long)
     ∙ sym (take-add 8 496 block)
 
-pub length_block_records : (block : List ℕ) → length (block_records block) ≡ get_or block 6 0
-length_block_records block = length-map (pieces 26 (get_or block 6 0) (drop 8 block)) record_of ∙ length_pieces 26 (get_or block 6 0) (drop 8 block)
+-- a checked block has as many records as it counts
+pub length_block_records : (kind place : ℕ) (block : List ℕ) → records_checked kind place 0 (pieces 26 (get_or block 6 0) (drop 8 block)) ≡ Ok tt → length (block_records block) ≡ get_or block 6 0
+length_block_records kind place block sound =
+    let parts = pieces 26 (get_or block 6 0) (drop 8 block) in
+    ap length (parts_whole kind place 0 parts sound) ∙ length-map parts whole_of ∙ length_pieces 26 (get_or block 6 0) (drop 8 block)
+
+-- no block has more
+pub few_block_records : (block : List ℕ) → length (block_records block) ≤ get_or block 6 0
+few_block_records block =
+    let long = length_pieces 26 (get_or block 6 0) (drop 8 block) in
+    let few = length_filter_map record_of (pieces 26 (get_or block 6 0) (drop 8 block)) in
+    omega arith
 
 pub block_back : (first : Header) (place : ℕ) (last : Bool) (block : List ℕ) → length block ≡ 512 → Bytes block → SoundBlock first place last block → block_bytes first place (block_records block) ≡ block
 unfolding block_bytes
@@ -77,7 +88,7 @@ block_back first place last block long each sound =
     let parts = pieces 26 n (drop 8 block) in
     let room : 26 * n ≤ length (drop 8 block) = omega (arith, length-drop 8 block) in
     let recs = block_records block in
-    let count : length recs ≡ n = length_block_records block in
+    let count : length recs ≡ n = length_block_records _ place block sound.records in
     let head : header_bytes (header_of block) ≡ header_bytes first = ap header_bytes (header_same (header_of block) first sound.front.same) in
     let written : flat_map record_bytes recs ≡ take (26 * n) (drop 8 block) =
     records_back _ place 0 parts (pieces_even 26 n (drop 8 block) room) (pieces_bytes 26 n (drop 8 block) (drop_bytes block 8 each)) sound.records

@@ -38,22 +38,28 @@ blocks_tell first i b bs h is =
     let p = then_tells InBlock (block_checked first i (is_nil bs) b) (blocks_checked first (suc i) bs) h is in
     (block_tells first i (is_nil bs) b p.0.0 p.0.1, p.1)
 
-counts : (first : Header) (i : ℕ) (bs : List (List ℕ)) (h : Header) → blocks_checked first i bs ≡ Ok h → (j : ℕ) → j < length bs → (1 ≤ get_or (get_or bs j []) 6 0) × (get_or (get_or bs j []) 6 0 ≤ 19)
-counts first i [] h is j inside = absurd (omega arith)
-counts first i (b ∷ bs) h is zero inside = let p = blocks_tell first i b bs h is in (p.0.front.some, p.0.front.few)
-counts first i (b ∷ bs) h is (suc j) inside = counts first (suc i) bs h (blocks_tell first i b bs h is).1 j (omega arith)
+-- what the check of a paper tells of one of its blocks
+pub record Told (block : List ℕ) : Type 0 where
+  pub some : 1 ≤ get_or block 6 0
+  pub few : get_or block 6 0 ≤ 19
+  pub place : ℕ
+  pub records : records_checked (get_or block 5 0) place 0 (pieces 26 (get_or block 6 0) (drop 8 block)) ≡ Ok tt
+
+told : (first : Header) (i : ℕ) (bs : List (List ℕ)) (h : Header) → blocks_checked first i bs ≡ Ok h → (j : ℕ) → j < length bs → Told (get_or bs j [])
+told first i [] h is j inside = absurd (omega arith)
+told first i (b ∷ bs) h is zero inside = let p = blocks_tell first i b bs h is in record { some = p.0.front.some; few = p.0.front.few; place = i; records = p.0.records }
+told first i (b ∷ bs) h is (suc j) inside = told first (suc i) bs h (blocks_tell first i b bs h is).1 j (omega arith)
 
 pub paper_tells : (paper : List ℕ) (h : Header) → paper_checked paper ≡ Ok h → (is_length (length paper) ≡ true) × (blocks_checked (header_of paper) 0 (blocks_in paper) ≡ Ok h)
 unfolding paper_checked
 paper_tells paper h is = cond_tells (is_length (length paper)) _ Length h is
 
--- the length of a sound paper, and how many records its block in place j has
+-- the length of a sound paper, and what is known of its block in place j
 pub record Counted (paper : List ℕ) (j : ℕ) : Type 0 where
   pub whole : length paper ≡ 512 * (length paper / 512)
   pub short : length paper ≤ 51200
-  pub some : j < length paper / 512 → 1 ≤ get_or paper (512 * j + 6) 0
-  pub few : j < length paper / 512 → get_or paper (512 * j + 6) 0 ≤ 19
   pub count : j < length paper / 512 → get_or (get_or (blocks_in paper) j []) 6 0 ≡ get_or paper (512 * j + 6) 0
+  pub told : j < length paper / 512 → Told (get_or (blocks_in paper) j [])
 
 pub sound_counted : (paper : List ℕ) (j : ℕ) → is_ok (paper_checked paper) ≡ true → Counted paper j
 sound_counted paper j sound =
@@ -63,14 +69,10 @@ sound_counted paper j sound =
     let q = and_parts (ltb 0 (length paper)) _ p.0 in
     let r = and_parts (leb (length paper) 51200) _ q.1 in
     let even = eqb-true (length paper % 512) 0 r.1 in
-    let at : j < n → get_or (get_or (blocks_in paper) j []) 6 0 ≡ get_or paper (512 * j + 6) 0 =
-    λ inside. ap (λ b. get_or b 6 0) (slice_index_or_pieces 512 j n paper inside) ∙ get_or-take 512 (drop (512 * j) paper) 6 0 (omega arith) ∙ get_or-drop (512 * j) paper 6 0 in
-    let both : j < n → (1 ≤ get_or (get_or (blocks_in paper) j []) 6 0) × (get_or (get_or (blocks_in paper) j []) 6 0 ≤ 19) =
-    λ inside. counts (header_of paper) 0 (blocks_in paper) o.0 p.1 j (omega (arith, length_pieces 512 n paper)) in
     record {
       whole = omega arith;
       short = leb-true (length paper) 51200 r.0;
-      some = λ inside. let e = at inside in let b = both inside in omega arith;
-      few = λ inside. let e = at inside in let b = both inside in omega arith;
-      count = at;
+      count =
+          λ inside. ap (λ b. get_or b 6 0) (slice_index_or_pieces 512 j n paper inside) ∙ get_or-take 512 (drop (512 * j) paper) 6 0 (omega arith) ∙ get_or-drop (512 * j) paper 6 0;
+      told = λ inside. told (header_of paper) 0 (blocks_in paper) o.0 p.1 j (omega (arith, length_pieces 512 n paper));
     }

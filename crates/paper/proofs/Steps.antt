@@ -1,11 +1,11 @@
 -- The steps of the loops over a block's records and a paper's blocks. Assumes nothing.
-use Rattle.std.proofs.Common.{◌≡◌, ℕ, zero, suc, ◌+◌, ◌-◌, ◌*◌, ◌/◌, ◌<◌, ◌≤◌, Bool, true, false, cond, eqb, List, length, take, drop, Some, None, Ok, Err, Result, sym, refl, ap, ◌∙◌, add-one, arith}
-use Rattle.std.proofs.lemmas.List.{drop-drop}
+use Rattle.std.proofs.Common.{◌≡◌, ℕ, suc, ◌+◌, ◌-◌, ◌*◌, ◌/◌, ◌<◌, ◌≤◌, Bool, true, false, cond, eqb, List, [], ◌∷◌, length, get_or, take, drop, Some, None, Ok, Err, Result, sym, refl, ap, ◌∙◌, add-one, arith, length-drop, length-take}
+use Rattle.std.proofs.lemmas.List.{at_drop_more, at_drop_all}
 use Rattle.std.proofs.lemmas.Bool.Decides.{nat_tests}
 use Rattle.blocks.specs.Blocks.{blocks_in, count_in, is_length}
 use Rattle.blocks.specs.Faults.{then}
 use Rattle.blocks.specs.Pieces.{pieces}
-use Rattle.blocks.proofs.Pieces.{pieces_more}
+use Rattle.blocks.proofs.Pieces.{pieces_take}
 use Rattle.blocks.specs.declared.fault.BlockFault.{BlockFault}
 use Rattle.blocks.specs.declared.fault.RecordFault.{RecordFault}
 use Rattle.paper.specs.Headers.{header_of}
@@ -15,59 +15,62 @@ use Rattle.paper.specs.declared.fault.PaperFault.{PaperFault}
 use Rattle.paper.specs.declared.fault.PaperFault.TheVariants.{Length, InBlock}
 
 -- the records from the i-th on
-abbrev pub records_left : ℕ → ℕ → List ℕ → ℕ → ℕ → Result (Unit {0}) RecordFault
-records_left kind place block n i = records_checked kind place i (pieces 26 (n - i) (drop (26 * i) (drop 8 block)))
+abbrev pub records_left : ℕ → ℕ → List (List ℕ) → ℕ → Result (Unit {0}) RecordFault
+records_left kind place parts i = records_checked kind place i (drop i parts)
 
-pub records_step : (kind place : ℕ) (block : List ℕ) (n i k : ℕ) (fits : Bool) → i < n → k ≡ i → part_fits kind (take (8 + 26 * k + 26 - (8 + 26 * k)) (drop (8 + 26 * k) block)) ≡ fits →
-    records_left kind place block n i ≡ cond fits (records_left kind place block n (i + 1)) (Err (record { block = place; «record» = i + 1 }))
-records_step kind place block n i k fits inside same is =
-    let width : 8 + 26 * k + 26 - (8 + 26 * k) ≡ 26 = omega arith in
-    let from : 8 + 26 * k ≡ 8 + 26 * i = omega arith in
-    let here : take 26 (drop (26 * i) (drop 8 block)) ≡ take (8 + 26 * k + 26 - (8 + 26 * k)) (drop (8 + 26 * k) block) =
-    ap (take 26) (drop-drop (26 * i) 8 block) ∙ λ j. take (sym width j) (drop (sym from j) block) in
-    ap (records_checked kind place i) (pieces_more 26 i n (drop 8 block) inside)
-    ∙ ap (λ t. cond t (records_checked kind place (suc i) (pieces 26 (n - (i + 1)) (drop (26 * (i + 1)) (drop 8 block)))) (Err (record { block = place; «record» = i + 1 }))) (ap (part_fits kind) here ∙ is)
-    ∙ ap (λ j. cond fits (records_checked kind place j (pieces 26 (n - (i + 1)) (drop (26 * (i + 1)) (drop 8 block)))) (Err (record { block = place; «record» = i + 1 }))) (sym (add-one i))
+pub records_step : (kind place : ℕ) (parts : List (List ℕ)) (i : ℕ) (fits : Bool) → i < length parts → part_fits kind (get_or parts i []) ≡ fits →
+    records_left kind place parts i ≡ cond fits (records_left kind place parts (i + 1)) (Err (record { block = place; «record» = i + 1 }))
+records_step kind place parts i fits inside is =
+    at_drop_more (records_checked kind place i) parts i [] inside
+    ∙ ap (λ t. cond t (records_checked kind place (suc i) (drop (i + 1) parts)) (Err (record { block = place; «record» = i + 1 }))) is
+    ∙ ap (λ j. cond fits (records_checked kind place j (drop (i + 1) parts)) (Err (record { block = place; «record» = i + 1 }))) (sym (add-one i))
 
-pub records_none : (kind place : ℕ) (block : List ℕ) (n i : ℕ) → n ≤ i → records_left kind place block n i ≡ Ok tt
-records_none kind place block n i past = let none : n - i ≡ 0 = omega arith in ap (λ m. records_checked kind place i (pieces 26 m (drop (26 * i) (drop 8 block)))) none
+pub records_none : (kind place : ℕ) (parts : List (List ℕ)) (i : ℕ) → length parts ≤ i → records_left kind place parts i ≡ Ok tt
+records_none kind place parts i past = at_drop_all (records_checked kind place i) parts i past
 
-pub records_all : (kind place : ℕ) (block : List ℕ) (n : ℕ) → records_left kind place block n 0 ≡ records_checked kind place 0 (pieces 26 n (drop 8 block))
-records_all kind place block n = let all : n - 0 ≡ n = omega arith in ap (λ m. records_checked kind place 0 (pieces 26 m (drop 8 block))) all
+-- the parts that the code cuts out of a block with n records
+pub block_parts : (block : List ℕ) (n end : ℕ) → length block ≡ 512 → n ≤ 19 → end ≡ 8 + 26 * n →
+    pieces 26 (length (take (end - 8) (drop 8 block)) / 26) (take (end - 8) (drop 8 block)) ≡ pieces 26 n (drop 8 block)
+block_parts block n end long few is =
+    let width : end - 8 ≡ 26 * n = omega arith in
+    let all : length (take (26 * n) (drop 8 block)) / 26 ≡ n = simp (length-take, length-drop) (omega arith) in
+    ap (λ k. pieces 26 (length (take k (drop 8 block)) / 26) (take k (drop 8 block))) width
+    ∙ ap (λ m. pieces 26 m (take (26 * n) (drop 8 block))) all
+    ∙ pieces_take 26 n (drop 8 block)
 
 -- the blocks from the i-th on
-abbrev pub blocks_left : Header → List ℕ → ℕ → ℕ → Result Header PaperFault
-blocks_left first paper n i = blocks_checked first i (pieces 512 (n - i) (drop (512 * i) paper))
+abbrev pub blocks_left : Header → List (List ℕ) → ℕ → Result Header PaperFault
+blocks_left first bs i = blocks_checked first i (drop i bs)
 
-nil_pieces : {X : Type 0} (width n : ℕ) (xs : List X) → is_nil (pieces width n xs) ≡ eqb n 0
-nil_pieces width zero xs = refl
-nil_pieces width (suc n) xs = grind (arith, nat_tests)
+nil_length : {X : Type 0} (xs : List X) → is_nil xs ≡ eqb (length xs) 0
+nil_length [] = refl
+nil_length (x ∷ xs) = grind (arith, nat_tests)
 
-pub blocks_step : (first : Header) (paper : List ℕ) (n i : ℕ) (answer : Result (Unit {0}) BlockFault) → i < n →
-    block_checked first i (eqb (i + 1) n) (take (512 * i + 512 - 512 * i) (drop (512 * i) paper)) ≡ answer →
-    blocks_left first paper n i ≡ then InBlock answer (blocks_left first paper n (i + 1))
-blocks_step first paper n i answer inside is =
-    let width : 512 * i + 512 - 512 * i ≡ 512 = omega arith in
-    let ps = pieces 512 (n - (i + 1)) (drop (512 * (i + 1)) paper) in
-    let last : is_nil ps ≡ eqb (i + 1) n = nil_pieces 512 (n - (i + 1)) (drop (512 * (i + 1)) paper) ∙ grind (arith, nat_tests) in
-    ap (blocks_checked first i) (pieces_more 512 i n paper inside)
-    ∙ ap (λ r. then InBlock r (blocks_checked first (suc i) ps)) ((λ j. block_checked first i (last j) (take (sym width j) (drop (512 * i) paper))) ∙ is)
-    ∙ ap (λ j. then InBlock answer (blocks_checked first j ps)) (sym (add-one i))
+pub blocks_step : (first : Header) (bs : List (List ℕ)) (n i : ℕ) (answer : Result (Unit {0}) BlockFault) → i < length bs → n ≡ length bs →
+    block_checked first i (eqb (i + 1) n) (get_or bs i []) ≡ answer →
+    blocks_left first bs i ≡ then InBlock answer (blocks_left first bs (i + 1))
+blocks_step first bs n i answer inside count is =
+    let rest = drop (i + 1) bs in
+    let left : length rest ≡ length bs - (i + 1) = length-drop (i + 1) bs in
+    let last : is_nil rest ≡ eqb (i + 1) n = nil_length rest ∙ grind (arith, nat_tests) in
+    at_drop_more (blocks_checked first i) bs i [] inside
+    ∙ ap (λ r. then InBlock r (blocks_checked first (suc i) rest)) (ap (λ t. block_checked first i t (get_or bs i [])) last ∙ is)
+    ∙ ap (λ j. then InBlock answer (blocks_checked first j rest)) (sym (add-one i))
 
-pub blocks_none : (first : Header) (paper : List ℕ) (n i : ℕ) → n ≤ i → blocks_left first paper n i ≡ Ok first
-blocks_none first paper n i past = let none : n - i ≡ 0 = omega arith in ap (λ m. blocks_checked first i (pieces 512 m (drop (512 * i) paper))) none
-
-pub blocks_all : (first : Header) (paper : List ℕ) (n : ℕ) → blocks_left first paper n 0 ≡ blocks_checked first 0 (pieces 512 n paper)
-blocks_all first paper n = let all : n - 0 ≡ n = omega arith in ap (λ m. blocks_checked first 0 (pieces 512 m paper)) all
+pub blocks_none : (first : Header) (bs : List (List ℕ)) (i : ℕ) → length bs ≤ i → blocks_left first bs i ≡ Ok first
+blocks_none first bs i past = at_drop_all (blocks_checked first i) bs i past
 
 counted : (b : Bool) (m n : ℕ) → Some n ≡ cond b (Some m) None → (b ≡ true) × (m ≡ n)
 counted true m n is = (refl, cc)
 counted false m n is = let z : ◌≡◌ {A = ℕ} 0 1 = cc in absurd (omega arith)
 
+pub blocks_counted : (paper : List ℕ) (n : ℕ) → Some n ≡ count_in (length paper) → length paper / 512 ≡ n
+blocks_counted paper n long = (counted (is_length (length paper)) (length paper / 512) n long).1
+
 -- the paper's check, where its length is right
-pub paper_blocks : (paper : List ℕ) (h : Header) (n : ℕ) → Some n ≡ count_in (length paper) → h ≡ header_of paper → blocks_checked h 0 (pieces 512 n paper) ≡ paper_checked paper
+pub paper_blocks : (paper : List ℕ) (h : Header) (n : ℕ) → Some n ≡ count_in (length paper) → h ≡ header_of paper → blocks_checked h 0 (blocks_in paper) ≡ paper_checked paper
 unfolding paper_checked
 paper_blocks paper h n long is =
     let p = counted (is_length (length paper)) (length paper / 512) n long in
-    (λ j. blocks_checked (is j) 0 (pieces 512 (sym p.1 j) paper))
+    ap (λ g. blocks_checked g 0 (blocks_in paper)) is
     ∙ ap (λ b. cond b (blocks_checked (header_of paper) 0 (blocks_in paper)) (Err Length)) (sym p.0)

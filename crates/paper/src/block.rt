@@ -1,5 +1,5 @@
 // The check of one block of a paper.
-ghost use Rattle.std.specs.Prelude.{◌≡◌, ◌+◌, ◌*◌, ◌<◌, ◌≤◌, length, drop, slice_index};
+ghost use Rattle.std.specs.Prelude.{◌≡◌, ◌+◌, ◌*◌, ◌<◌, ◌≤◌, drop, slice_index};
 ghost use Rattle.blocks.specs.Pieces.{pieces};
 ghost use Rattle.paper.specs.Checks.{block_checked, count_fits, front_fits, part_fits, record_at, records_checked, zeros_checked};
 
@@ -7,7 +7,7 @@ use crate::header::Header;
 use crate::layout::{FRONT, FULL, RECORD};
 use crate::record::Record;
 use crate::zeros::first_nonzero;
-use blocks::block::BODY;
+use blocks::block::{BLOCK, BODY};
 use blocks::check::check_holds;
 use blocks::fault::{BlockFault, RecordFault};
 
@@ -22,42 +22,41 @@ fn count_fits(last: bool, count: u8) -> bool
     ensures { result ≡ count_fits last count }
 {
     if last {
-        count >= 1 && count <= FULL_COUNT
+        (1..=FULL_COUNT).contains(&count)
     } else {
         count == FULL_COUNT
     }
 }
 
 // Whether the header fits and is the first block's, and the count and the place are right.
-fn front_fits(block: &[u8], first: Header, place: u8, last: bool) -> bool
-    requires { length block.now ≡ 512 }
+#[tactic(auto, unfolding(crate::specs::Checks::front_fits))]
+fn front_fits(block: &[u8; BLOCK], first: Header, place: u8, last: bool) -> bool
     ensures { result ≡ front_fits first place last block.now }
 {
     let header = Header::read(block);
-    header.fits() && header.is_same(first) && count_fits(last, block[6]) && block[7] == place
+    header.fits() && header == first && count_fits(last, block[6]) && block[7] == place
 }
 
 // Whether 26 bytes are a record that a paper of this kind may have.
-fn part_fits(part: &[u8], kind: u8) -> bool
-    requires { length part.now ≡ 26 }
+fn part_fits(part: &[u8; RECORD], kind: u8) -> bool
     ensures { result ≡ part_fits kind part.now }
 {
-    part[0] >= 1 && part[0] <= 6 && Record::read(part).fits(kind)
+    Record::read(part).is_some_and(|record| record.fits(kind))
 }
 
 // Checks the records that the block counts, from the first.
-fn check_records(block: &[u8], place: u8) -> Result<(), RecordFault>
-    requires { (length block.now ≡ 512) × (slice_index block.now 6 ≤ 19) }
+fn check_records(block: &[u8; BLOCK], place: u8) -> Result<(), RecordFault>
+    requires { slice_index block.now 6 ≤ 19 }
     ensures { result ≡ records_checked (slice_index block.now 5) place 0 (pieces 26 (slice_index block.now 6) (drop 8 block.now)) }
 {
     let kind = block[5];
-    let count = block[6];
-    for i in 0..count {
-        let from = FRONT + RECORD * usize::from(i);
-        if !part_fits(&block[from..from + RECORD], kind) {
+    let end = FRONT + RECORD * usize::from(block[6]);
+    let (parts, _) = block[FRONT..end].as_chunks::<RECORD>();
+    for (i, part) in parts.iter().enumerate() {
+        if !part_fits(part, kind) {
             return Err(RecordFault {
                 block: place,
-                record: i + 1,
+                record: i as u8 + 1,
             });
         }
     }
@@ -77,8 +76,8 @@ fn record_at(byte: usize) -> u8
 }
 
 // The bytes behind the records, up to the check, are zero.
-fn check_zeros(block: &[u8], place: u8) -> Result<(), RecordFault>
-    requires { (length block.now ≡ 512) × (slice_index block.now 6 ≤ 19) }
+fn check_zeros(block: &[u8; BLOCK], place: u8) -> Result<(), RecordFault>
+    requires { slice_index block.now 6 ≤ 19 }
     ensures { result ≡ zeros_checked place (8 + 26 * slice_index block.now 6) block.now }
 {
     let from = FRONT + RECORD * usize::from(block[6]);
@@ -92,13 +91,13 @@ fn check_zeros(block: &[u8], place: u8) -> Result<(), RecordFault>
 }
 
 // Checks the block in a place, against the header of the first.
+#[tactic(auto, unfolding(crate::specs::Checks::block_checked))]
 pub(crate) fn check_block(
-    block: &[u8],
+    block: &[u8; BLOCK],
     first: Header,
     place: u8,
     last: bool,
 ) -> Result<(), BlockFault>
-    requires { length block.now ≡ 512 }
     ensures { result ≡ block_checked first place last block.now }
 {
     if !check_holds(block) {

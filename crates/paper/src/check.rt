@@ -17,8 +17,8 @@ pub fn check_paper(paper: &[u8]) -> Result<Header, PaperFault>
         return Err(PaperFault::Length);
     };
     let header = Header::read(paper);
-    for i in 0..blocks {
-        let block = &paper[BLOCK * i..BLOCK * i + BLOCK];
+    let (parts, _) = paper.as_chunks::<BLOCK>();
+    for (i, block) in parts.iter().enumerate() {
         check_block(block, header, i as u8, i + 1 == blocks)?;
     }
     Ok(header)

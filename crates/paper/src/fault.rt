@@ -2,7 +2,7 @@ ghost use Rattle.std.specs.Prelude.{◌≡◌};
 ghost use Rattle.paper.specs.declared.fault.PaperFault.TheVariants.{InBlock};
 ghost use Rattle.paper.specs.Faults.{figures_of};
 
-use blocks::fault::BlockFault;
+use blocks::fault::{BlockFault, Figures};
 
 // Why a paper is refused.
 #[derive(Clone, Copy, PartialEq, Eq, Debug)]
@@ -14,12 +14,16 @@ pub enum PaperFault {
 }
 
 impl PaperFault {
-    // The fault's number, the block that it is found in, from 0, and the record, from 1, or 0 where none is meant.
-    pub fn figures(self) -> (u8, u8, u8)
+    // The figures by which the fault is told: the block is counted from 0, the record from 1.
+    pub fn figures(self) -> Figures
         ensures { result ≡ figures_of self }
     {
         match self {
-            PaperFault::Length => (13, 0, 0),
+            PaperFault::Length => Figures {
+                number: 13,
+                block: 0,
+                record: 0,
+            },
             PaperFault::InBlock(fault) => fault.figures(),
         }
     }

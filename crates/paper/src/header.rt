@@ -1,12 +1,12 @@
 ghost use Rattle.std.specs.Prelude.{◌≡◌, ◌≤◌, length};
-ghost use Rattle.paper.specs.Headers.{header_of, header_fits, is_rule, is_kind, same_header, shape_fits};
+ghost use Rattle.paper.specs.Headers.{header_of, header_fits, is_rule, is_kind, shape_fits};
 
-use numbers::little_endian::read_u16;
+use numbers::little_endian::read;
 use rules::rule::Rule;
 use tallies::tally::Tally;
 
 // What a paper says of its table: buckets, rows in use at the start, most rows, and the numbers of its rule and its kind.
-// It may break the limits of a header.
+// It may break the limits of a header, and name no rule or kind: so these are numbers, matched against those that the rules and kinds give.
 #[derive(Clone, Copy, PartialEq, Eq, Debug)]
 pub struct Header {
     pub buckets: u16,
@@ -23,7 +23,7 @@ impl Header {
         ensures { result ≡ header_of bytes.now }
     {
         Header {
-            buckets: read_u16(bytes, 0),
+            buckets: read(bytes, 0),
             rows: bytes[2],
             most: bytes[3],
             rule: bytes[4],
@@ -32,28 +32,18 @@ impl Header {
     }
 
     // The fields keep their limits, and the rule and the kind are known.
+    #[tactic(auto, unfolding(crate::specs::Headers::header_fits))]
     pub fn fits(self) -> bool
         ensures { result ≡ header_fits self }
     {
         self.shape_fits() && is_rule(self.rule) && is_kind(self.kind)
     }
 
-    // Whether the two headers are equal.
-    pub(crate) fn is_same(self, other: Header) -> bool
-        ensures { result ≡ same_header self other }
-    {
-        self == other
-    }
-
     // Whether buckets, rows and most rows keep a paper's limits.
     fn shape_fits(self) -> bool
         ensures { result ≡ shape_fits self }
     {
-        self.buckets >= 2
-            && self.buckets <= 256
-            && self.most <= 8
-            && self.rows >= 1
-            && self.rows <= self.most
+        (2..=256).contains(&self.buckets) && self.most <= 8 && (1..=self.most).contains(&self.rows)
     }
 }
 

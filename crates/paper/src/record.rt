@@ -1,48 +1,50 @@
-ghost use Rattle.std.specs.Prelude.{◌≡◌, length};
-ghost use Rattle.paper.specs.Records.{code_of, call_of, takes_amount, takes_key, amount_fits, key_fits, octets_fit, record_of, record_fits, Held};
+ghost use Rattle.std.specs.Prelude.{◌≡◌};
+ghost use Rattle.paper.specs.Records.{code_of, Decodes, takes_amount, takes_key, amount_fits, key_fits, octets_fit, record_of, record_fits, Held};
 
+use crate::layout::RECORD;
 use crate::zeros::first_nonzero;
-use numbers::little_endian::{read_u32, read_u64};
+use numbers::little_endian::read;
 use tallies::tally::Tally;
 
 // What a record asks of the table.
 #[derive(Clone, Copy, PartialEq, Eq, Debug)]
 pub enum Call {
-    Post,
-    Reverse,
-    Erase,
-    LookUp,
-    Widen,
-    Narrow,
+    Post = 1,
+    Reverse = 2,
+    Erase = 3,
+    LookUp = 4,
+    Widen = 5,
+    Narrow = 6,
+}
+
+// A code that names no call.
+#[derive(Clone, Copy, PartialEq, Eq, Debug)]
+pub struct UnknownCall(pub u8);
+
+impl TryFrom<u8> for Call {
+    type Error = UnknownCall;
+
+    ghost try_from_gives = { Decodes };
+
+    fn try_from(code: u8) -> Result<Call, UnknownCall> {
+        match code {
+            1 => Ok(Call::Post),
+            2 => Ok(Call::Reverse),
+            3 => Ok(Call::Erase),
+            4 => Ok(Call::LookUp),
+            5 => Ok(Call::Widen),
+            6 => Ok(Call::Narrow),
+            _ => Err(UnknownCall(code)),
+        }
+    }
 }
 
 impl Call {
-    // The call of a code from 1 to 6.
-    fn of(code: u8) -> Call
-        ensures { result ≡ call_of code }
-    {
-        match code {
-            1 => Call::Post,
-            2 => Call::Reverse,
-            3 => Call::Erase,
-            4 => Call::LookUp,
-            5 => Call::Widen,
-            _ => Call::Narrow,
-        }
-    }
-
     // The byte that names the call in a paper.
     pub fn code(self) -> u8
         ensures { result ≡ code_of self }
     {
-        match self {
-            Call::Post => 1,
-            Call::Reverse => 2,
-            Call::Erase => 3,
-            Call::LookUp => 4,
-            Call::Widen => 5,
-            Call::Narrow => 6,
-        }
+        self as u8
     }
 
     // Whether the call has packets and octets.
@@ -76,19 +78,19 @@ pub struct Record {
 }
 
 impl Record {
-    // The record in 26 bytes whose first names a call.
-    pub(crate) fn read(part: &[u8]) -> Record
-        requires { length part.now ≡ 26 }
+    // The record in 26 bytes, if the first names a call.
+    pub(crate) fn read(part: &[u8; RECORD]) -> Option<Record>
         ensures { result ≡ record_of part.now }
     {
+        let call = Call::try_from(part[0]).ok()?;
         let mut key = [0; 13];
         key.copy_from_slice(&part[1..14]);
-        Record {
-            call: Call::of(part[0]),
+        Some(Record {
+            call,
             key,
-            packets: read_u32(part, 14),
-            octets: read_u64(part, 18),
-        }
+            packets: read(part, 14),
+            octets: read(part, 18),
+        })
     }
 
     // Whether packets and octets are zero where the call takes none.
@@ -113,6 +115,7 @@ impl Record {
     }
 
     // What the call does not take is zero, and a paper of replicas has no octets.
+    #[tactic(auto, unfolding(crate::specs::Records::record_fits))]
     pub fn fits(self, kind: u8) -> bool
         ensures value { result ≡ record_fits kind self }
         ensures held { Held self }

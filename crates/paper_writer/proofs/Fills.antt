@@ -1,14 +1,13 @@
 -- What one write after another leaves of a record, a block and a paper. Assumes nothing.
-use Rattle.std.proofs.Common.{◌≡◌, ℕ, ◌+◌, ◌-◌, ◌*◌, ◌<◌, ◌≤◌, min, List, [], ◌∷◌, ◌++◌, length, get_or, take, drop, set, replicate, sym, refl, ap, ◌∙◌, ⊎_elim, append_assoc, append-nil, add-one, arith, length-append, length-drop}
+use Rattle.std.proofs.Common.{◌≡◌, ℕ, suc, ◌+◌, ◌-◌, ◌*◌, ◌<◌, ◌≤◌, min, List, [], ◌∷◌, ◌++◌, length, get_or, take, drop, set, replicate, sym, refl, ap, ◌∙◌, subst, ⊎_elim, append_assoc, append-nil, add-one, arith, length-append}
 use borrow.Rule.Slice.PartMut.{put_mid}
 use Rattle.std.specs.List.{flat_map}
-use Rattle.std.proofs.lemmas.List.{drop_all, flat_map_more, length-replicate, take_all, take_more}
+use Rattle.std.proofs.lemmas.List.{drop_all, drop_at, flat_map_more, length-replicate, take_all, take_at, take_more}
 use Rattle.std.proofs.lemmas.Slice.{take-put_mid}
 use Rattle.std.proofs.lemmas.Bool.{cases_lt}
 use Rattle.numbers.specs.Buffers.{put}
 use Rattle.numbers.proofs.Puts.{put_byte, put_part, put_put}
 use Rattle.blocks.specs.Pieces.{pieces}
-use Rattle.blocks.proofs.Pieces.{pieces_more}
 use Rattle.paper.specs.Headers.{header_bytes}
 use Rattle.paper.specs.Records.{record_bytes}
 use Rattle.paper.specs.Writing.{block_body, block_bytes, blocks_bytes, blocks_for, paper_bytes}
@@ -63,41 +62,83 @@ body_filled h place front records before after zeros i width head past within fe
     ∙ (λ k. head k ++ (flat_map record_bytes records ++ blank k))
     ∙ append_assoc (header_bytes h) (n ∷ place ∷ []) (flat_map record_bytes records ++ replicate (496 - 26 * n) 0)
 
-take_short : {X : Type 0} (xs : List X) (k n : ℕ) → k ≡ min n (length xs) → take k xs ≡ take n xs
-take_short xs k n is =
+nil_of : {X : Type 0} (xs : List X) → length xs ≡ 0 → xs ≡ []
+nil_of [] none = refl
+nil_of (x ∷ xs) none = absurd (omega arith)
+
+-- a group of 19 records, or of all that are left
+record Cut (group rest : List Record) : Type 0 where
+  front : take 19 (group ++ rest) ≡ group
+  back : drop 19 (group ++ rest) ≡ rest
+  count : blocks_for (length (group ++ rest)) ≡ suc (blocks_for (length rest))
+
+cut : (group rest : List Record) → length group ≡ min 19 (length (group ++ rest)) → 0 < length (group ++ rest) → Cut group rest
+cut group rest long some =
+    let all = length-append group rest in
     ⊎_elim
-    (λ less. take_all k xs (omega arith) ∙ sym (take_all n xs (omega arith)))
-    (λ more. let same : k ≡ n = omega arith in ap (λ m. take m xs) same)
-    (cases_lt (length xs) n)
+    (λ less.
+    let none : rest ≡ [] = nil_of rest (omega arith) in
+    record {
+      front = take_all 19 (group ++ rest) (omega arith) ∙ ap (λ l. group ++ l) none ∙ append-nil group;
+      back = drop_all 19 (group ++ rest) (omega arith) ∙ sym none;
+      count = omega arith;
+    })
+    (λ more.
+    let full : length group ≡ 19 = omega arith in
+    record { front = take_at group rest 19 full; back = drop_at group rest 19 full; count = omega arith })
+    (cases_lt (length group) 19)
 
--- the blocks still to be written, of n
-abbrev pub blocks_rest : Header → List Record → ℕ → ℕ → List ℕ
-blocks_rest h records n i = flat_map (λ (b : List ℕ). b) (blocks_bytes h i (pieces 19 (n - i) (drop (19 * i) records)))
+-- the blocks of the records that are left, counted from i
+abbrev pub blocks_rest : Header → ℕ → List Record → List ℕ
+blocks_rest h i left = flat_map (λ (b : List ℕ). b) (blocks_bytes h i (pieces 19 (blocks_for (length left)) left))
 
-pub blocks_first : (h : Header) (records : List Record) (n : ℕ) → n ≡ blocks_for (length records) → blocks_rest h records n 0 ≡ paper_bytes h records
+-- i blocks are written, and these records are left
+pub record Filling (h : Header) (records : List Record) (buffer : List ℕ) (i : ℕ) (left : List Record) : Type 0 where
+  pub stands : take (512 * i) buffer ++ blocks_rest h i left ≡ paper_bytes h records
+  pub count : i + blocks_for (length left) ≡ blocks_for (length records)
+
+pub filling_first : (h : Header) (records : List Record) (buffer : List ℕ) (i : ℕ) (left : List Record) → i ≡ 0 → left ≡ records → Filling h records buffer i left
 unfolding paper_bytes
-blocks_first h records n is = let all : n - 0 ≡ blocks_for (length records) = omega arith in ap (λ m. flat_map (λ (b : List ℕ). b) (blocks_bytes h 0 (pieces 19 m records))) all
+filling_first h records buffer i left none all =
+    let same : blocks_for (length left) ≡ blocks_for (length records) = ap (λ rs. blocks_for (length rs)) all in
+    record { stands = λ k. take (512 * none k) buffer ++ blocks_rest h (none k) (all k); count = omega arith }
 
-pub block_next : (h : Header) (records : List Record) (paper before after block : List ℕ) (i n end width : ℕ) → i < n →
-    take (512 * i) before ++ blocks_rest h records n i ≡ paper → after ≡ put_mid (512 * i) width before block →
-    block ≡ block_bytes h i (take (end - 19 * i) (drop (19 * i) records)) → end ≡ min (19 * i + 19) (length records) →
-    length block ≡ 512 → 512 * i ≤ length before → take (512 * (i + 1)) after ++ blocks_rest h records n (i + 1) ≡ paper
-block_next h records paper before after block i n end width inside stands is what last long room =
-    let ps = pieces 19 (n - (i + 1)) (drop (19 * (i + 1)) records) in
-    let held : block ≡ block_bytes h i (take 19 (drop (19 * i) records)) =
-    what ∙ ap (block_bytes h i) (take_short (drop (19 * i) records) (end - 19 * i) 19 (omega (arith, length-drop (19 * i) records))) in
-    let more : blocks_rest h records n i ≡ block ++ blocks_rest h records n (i + 1) =
-    ap (λ l. flat_map (λ (b : List ℕ). b) (blocks_bytes h i l)) (pieces_more 19 i n records inside)
-    ∙ (λ k. sym held k ++ flat_map (λ (b : List ℕ). b) (blocks_bytes h (sym (add-one i) k) ps)) in
-    ap (λ l. l ++ blocks_rest h records n (i + 1)) (part_next before after block (take (512 * i) before) (512 * i) width (512 * (i + 1)) is room (omega arith) refl)
-    ∙ append_assoc (take (512 * i) before) block (blocks_rest h records n (i + 1))
-    ∙ ap (λ l. take (512 * i) before ++ l) (sym more)
-    ∙ stands
+filling_more : (h : Header) (records : List Record) (before after block : List ℕ) (i width : ℕ) (left group rest : List Record) → Filling h records before i left →
+    length before ≡ 512 * blocks_for (length records) → left ≡ group ++ rest → length group ≡ min 19 (length left) → 0 < length left →
+    after ≡ put_mid (512 * i) width before block → block ≡ block_bytes h i group → length block ≡ 512 → Filling h records after (i + 1) rest
+filling_more h records before after block i width left group rest filling room parts long some is what whole =
+    let all : length left ≡ length (group ++ rest) = ap length parts in
+    let c = cut group rest (omega arith) (omega arith) in
+    let fewer : blocks_for (length left) ≡ suc (blocks_for (length rest)) = ap (λ rs. blocks_for (length rs)) parts ∙ c.count in
+    let count = filling.count in
+    let more : blocks_rest h i left ≡ block ++ blocks_rest h (i + 1) rest =
+    ap (λ n. flat_map (λ (b : List ℕ). b) (blocks_bytes h i (pieces 19 n left))) fewer
+    ∙ ap (λ rs. flat_map (λ (b : List ℕ). b) (blocks_bytes h i (pieces 19 (suc (blocks_for (length rest))) rs))) parts
+    ∙ (λ k. block_bytes h i (c.front k) ++ flat_map (λ (b : List ℕ). b) (blocks_bytes h (sym (add-one i) k) (pieces 19 (blocks_for (length rest)) (c.back k))))
+    ∙ ap (λ l. l ++ blocks_rest h (i + 1) rest) (sym what) in
+    record {
+      stands =
+          ap (λ l. l ++ blocks_rest h (i + 1) rest) (part_next before after block (take (512 * i) before) (512 * i) width (512 * (i + 1)) is (omega arith) (omega arith) refl)
+          ∙ append_assoc (take (512 * i) before) block (blocks_rest h (i + 1) rest)
+          ∙ ap (λ l. take (512 * i) before ++ l) (sym more)
+          ∙ filling.stands;
+      count = omega arith;
+    }
 
-pub blocks_last : (h : Header) (records : List Record) (buffer paper : List ℕ) (i n : ℕ) → n ≤ i → i ≤ n → length buffer ≡ 512 * n →
-    take (512 * i) buffer ++ blocks_rest h records n i ≡ paper → buffer ≡ paper
-blocks_last h records buffer paper i n past within long stands =
-    let none : n - i ≡ 0 = omega arith in
-    sym (ap (λ m. take (512 * i) buffer ++ flat_map (λ (b : List ℕ). b) (blocks_bytes h i (pieces 19 m (drop (19 * i) records)))) none
+-- the same, where the count is the iterator's
+pub filling_next : (h : Header) (records : List Record) (before after block : List ℕ) (i at next width : ℕ) (left group rest : List Record) → Filling h records before at left → i ≡ at → next ≡ at + 1 →
+    length before ≡ 512 * blocks_for (length records) → left ≡ group ++ rest → length group ≡ min 19 (length left) → 0 < length left →
+    after ≡ put_mid (512 * i) width before block → block ≡ block_bytes h i group → length block ≡ 512 → Filling h records after next rest
+filling_next h records before after block i at next width left group rest filling here on room parts long some is what whole =
+    let from = subst (λ n. Filling h records before n left) (sym here) filling in
+    let one : i + 1 ≡ next = omega arith in
+    subst (λ n. Filling h records after n rest) one (filling_more h records before after block i width left group rest from room parts long some is what whole)
+
+pub filling_last : (h : Header) (records : List Record) (buffer : List ℕ) (i : ℕ) (left : List Record) → Filling h records buffer i left →
+    length buffer ≡ 512 * blocks_for (length records) → length left ≡ 0 → buffer ≡ paper_bytes h records
+filling_last h records buffer i left filling room none =
+    let count = filling.count in
+    let last : blocks_for (length left) ≡ 0 = omega arith in
+    sym (ap (λ n. take (512 * i) buffer ++ flat_map (λ (b : List ℕ). b) (blocks_bytes h i (pieces 19 n left))) last
     ∙ append-nil (take (512 * i) buffer) ∙ take_all (512 * i) buffer (omega arith))
-    ∙ stands
+    ∙ filling.stands

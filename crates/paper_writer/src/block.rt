@@ -1,4 +1,5 @@
-// One block of a paper, written into a lent part of the buffer.
+// One block of a paper, written into a lent part of the buffer. A part is a slice: what is written to an array that
+// `first_chunk_mut` lends in a loop is not followed by the check.
 ghost use Rattle.std.specs.Prelude.{◌≡◌, ◌≤◌, [], ◌∷◌, ◌++◌, length};
 ghost use Rattle.paper.specs.Headers.{header_bytes};
 ghost use Rattle.paper.specs.Records.{record_bytes};
@@ -6,7 +7,7 @@ ghost use Rattle.paper.specs.Writing.{block_bytes};
 
 use blocks::block::BODY;
 use blocks::check::write_check;
-use numbers::little_endian::{write_u32, write_u64};
+use numbers::little_endian::write;
 use paper::header::Header;
 use paper::layout::{FRONT, RECORD};
 use paper::record::Record;
@@ -36,8 +37,8 @@ fn write_record(part: &mut [u8], entry: &Record)
 {
     part[0] = entry.call.code();
     part[1..14].copy_from_slice(&entry.key);
-    write_u32(part, 14, entry.packets);
-    write_u64(part, 18, entry.octets);
+    write(part, 14, entry.packets);
+    write(part, 18, entry.octets);
 }
 
 // Writes all bytes of a block.
@@ -51,5 +52,5 @@ pub(crate) fn write_block(block: &mut [u8], header: Header, place: u8, records: 
         write_record(&mut block[from..from + RECORD], record);
     }
     block[FRONT + RECORD * records.len()..BODY].fill(0);
-    write_check(block);
+    write_check(block.as_mut_array().unwrap());
 }

@@ -15,12 +15,9 @@ fn write_blocks(buffer: &mut [u8], header: Header, records: &[Record])
     requires { (length buffer.old ≡ 512 * blocks_for (length records.now)) × (length records.now ≤ 1900) }
     ensures { buffer.new ≡ paper_bytes header records.now }
 {
-    let blocks = (records.len() + (FULL - 1)) / FULL;
-    for i in 0..blocks {
-        let from = FULL * i;
-        let end = (from + FULL).min(records.len());
-        let block = &mut buffer[BLOCK * i..BLOCK * i + BLOCK];
-        write_block(block, header, i as u8, &records[from..end]);
+    for (i, group) in records.chunks(FULL).enumerate() {
+        let from = BLOCK * i;
+        write_block(&mut buffer[from..from + BLOCK], header, i as u8, group);
     }
 }
 
@@ -32,7 +29,7 @@ pub fn write_paper(header: Header, records: &[Record], buffer: &mut [u8]) -> Res
     ensures read_back { is_ok result ≡ true → ReadsBack buffer.new header records.now }
 {
     let count = records.len();
-    if count == 0 || count > MOST_RECORDS || buffer.len() != BLOCK * ((count + (FULL - 1)) / FULL) {
+    if count == 0 || count > MOST_RECORDS || buffer.len() != BLOCK * count.div_ceil(FULL) {
         return Err(PaperFault::Length);
     }
     check_contents(header, records)?;

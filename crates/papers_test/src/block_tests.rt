@@ -1,3 +1,4 @@
+use crate::samples::figures;
 use blocks::block::count_blocks;
 use blocks::check::{check_holds, write_check};
 use blocks::fault::BlockFault;
@@ -29,14 +30,17 @@ fn a_check_is_written_and_holds(rt: HostRuntime) {
 
 #[test]
 fn faults_have_their_figures(rt: HostRuntime) {
-    assert_eq!(rt; BlockFault::Check { block: 7 }.figures(), (14, 7, 0));
-    assert_eq!(rt; BlockFault::Header { block: 99 }.figures(), (15, 99, 0));
+    assert_eq!(rt; BlockFault::Check { block: 7 }.figures(), figures(14, 7, 0));
+    assert_eq!(rt;
+        BlockFault::Header { block: 99 }.figures(),
+        figures(15, 99, 0)
+    );
     assert_eq!(rt;
         BlockFault::Record {
             block: 8,
             record: 19,
         }
         .figures(),
-        (16, 8, 19)
+        figures(16, 8, 19)
     );
 }

@@ -1,4 +1,4 @@
-use crate::samples::{LONGEST, MOST_RECORDS, SOUND, TRAFFIC, figures_of_writing, post, widen};
+use crate::samples::{LONGEST, MOST_RECORDS, TRAFFIC, figures_of_writing, post, widen};
 use paper::check::check_paper;
 use paper::fault::PaperFault;
 use paper::reader::Reader;
@@ -6,10 +6,9 @@ use paper::reader::Reader;
 // How many records the paper has, and all their octets.
 fn totals(paper: &[u8]) -> Result<(u64, u64), PaperFault> {
     check_paper(paper)?;
-    let mut reader = Reader::new(paper);
     let mut records: u64 = 0;
     let mut octets: u64 = 0;
-    while let Some(record) = reader.next() {
+    for record in Reader::new(paper) {
         records = records.wrapping_add(1);
         octets = octets.wrapping_add(record.octets);
     }
@@ -21,7 +20,7 @@ fn every_record_is_read_once(rt: HostRuntime) {
     let mut paper = [0; LONGEST];
     assert_eq!(rt;
         figures_of_writing(TRAFFIC, &[post(1, 9); MOST_RECORDS], &mut paper),
-        SOUND
+        None
     );
     assert_eq!(rt; totals(&paper), Ok((1900, 17100)));
 }

@@ -1,6 +1,7 @@
 // Papers to test on, and what their check says.
-use blocks::block::{BLOCK, MOST_BLOCKS};
+use blocks::block::BLOCK;
 use blocks::check::write_check;
+use blocks::fault::Figures;
 use paper::check::check_paper;
 use paper::header::Header;
 use paper::record::{Call, Record};
@@ -9,8 +10,6 @@ use paper_writer::write::write_paper;
 pub const LONGEST: usize = 51200;
 
 pub const MOST_RECORDS: usize = 1900;
-
-pub const SOUND: (u8, u8, u8) = (0, 0, 0);
 
 pub const TRAFFIC: Header = Header {
     buckets: 256,
@@ -48,45 +47,60 @@ pub fn widen() -> Record {
     }
 }
 
-// The figures of the paper's fault, or zeros.
-pub fn figures_of(paper: &[u8]) -> (u8, u8, u8) {
-    match check_paper(paper) {
-        Ok(_) => SOUND,
-        Err(fault) => fault.figures(),
+pub fn figures(number: u8, block: u8, record: u8) -> Figures {
+    Figures {
+        number,
+        block,
+        record,
     }
 }
 
-// The figures of the writer's refusal, or zeros.
-pub fn figures_of_writing(header: Header, records: &[Record], buffer: &mut [u8]) -> (u8, u8, u8) {
-    match write_paper(header, records, buffer) {
-        Ok(()) => SOUND,
-        Err(fault) => fault.figures(),
-    }
+// A fault with these figures.
+pub fn told(number: u8, block: u8, record: u8) -> Option<Figures> {
+    Some(figures(number, block, record))
+}
+
+// The figures of the paper's fault, if it has one.
+pub fn figures_of(paper: &[u8]) -> Option<Figures> {
+    check_paper(paper).err().map(|fault| fault.figures())
+}
+
+// The figures of the writer's refusal, if it refuses.
+pub fn figures_of_writing(
+    header: Header,
+    records: &[Record],
+    buffer: &mut [u8],
+) -> Option<Figures> {
+    let written = write_paper(header, records, buffer);
+    written.err().map(|fault| fault.figures())
 }
 
 // Writes the check of a block anew.
 pub fn mend(paper: &mut [u8], block: usize) {
-    if block < MOST_BLOCKS && BLOCK * block + BLOCK <= paper.len() {
-        write_check(&mut paper[BLOCK * block..BLOCK * block + BLOCK]);
+    if let Some(bytes) = paper.as_chunks_mut::<BLOCK>().0.get_mut(block) {
+        write_check(bytes);
     }
 }
 
 pub fn put(paper: &mut [u8], block: usize, byte: usize, value: u8) {
-    if block < MOST_BLOCKS && byte < BLOCK && BLOCK * block + byte < paper.len() {
-        paper[BLOCK * block + byte] = value;
+    if let Some(bytes) = paper.as_chunks_mut::<BLOCK>().0.get_mut(block) {
+        if let Some(place) = bytes.get_mut(byte) {
+            *place = value;
+        }
     }
 }
 
+// The byte of a block, or 0 where the paper has none.
 pub fn byte_at(paper: &[u8], block: usize, byte: usize) -> u8 {
-    if block < MOST_BLOCKS && byte < BLOCK && BLOCK * block + byte < paper.len() {
-        paper[BLOCK * block + byte]
-    } else {
-        0
-    }
+    let block = paper.as_chunks::<BLOCK>().0.get(block);
+    block
+        .and_then(|bytes| bytes.get(byte))
+        .copied()
+        .unwrap_or(0)
 }
 
 // The figures after one byte is changed and the block's check mended. The paper is as it was then.
-pub fn figures_with(paper: &mut [u8], block: usize, byte: usize, value: u8) -> (u8, u8, u8) {
+pub fn figures_with(paper: &mut [u8], block: usize, byte: usize, value: u8) -> Option<Figures> {
     let old = byte_at(paper, block, byte);
     put(paper, block, byte, value);
     mend(paper, block);

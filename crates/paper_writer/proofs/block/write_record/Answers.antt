@@ -9,6 +9,6 @@ returns c =
     let e = c.args.entry.now in
     let key = c.copy_from_slice.new.self in
     let amounts = bytes_of 4 e.packets ++ bytes_of 8 e.octets in
-    record_filled c.args.part.now _ _ key (bytes_of 4 e.packets) (bytes_of 8 e.octets) c.code.result c.requires (omega arith) refl refl c.write_u32.ensures c.write_u64.ensures
+    record_filled c.args.part.now _ _ key (bytes_of 4 e.packets) (bytes_of 8 e.octets) c.code.result (omega arith) (omega arith) refl refl c.write.ensures c.write-2.ensures
     ∙ ap (λ n. n ∷ (key ++ amounts)) c.code.ensures
     ∙ ap (λ k. code_of e.call ∷ (k ++ amounts)) c.copy_from_slice.ensures.after

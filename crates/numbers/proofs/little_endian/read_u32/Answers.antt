@@ -1,6 +1,0 @@
-use Rattle.std.proofs.Common.{arith}
-use Rattle.numbers.proofs.Widths.{number_by_bytes}
-use Rattle.numbers.proofs.little_endian.read_u32.Goals as goal
-
-pub returns : goal.returns
-returns c = omega (arith, number_by_bytes c.args.bytes.now c.args.place 3 c.requires)
