@@ -3,7 +3,7 @@ use Rattle.std.proofs.Common.{◌≡◌, ℕ, ◌+◌, ◌-◌, ◌*◌, ◌<◌
 use Rattle.std.specs.Simd.{first_chunks}
 use Rattle.numbers.specs.Buffers.{put}
 use Rattle.numbers.proofs.Puts.{put_byte, put_put}
-use Rattle.run.proofs.Running.{put_none}
+use Rattle.numbers.proofs.Puts.{put_none}
 use Rattle.blocks.specs.Pieces.{pieces}
 use Rattle.blocks.proofs.Pieces.{pieces_more}
 use Rattle.tallies.specs.declared.replicas.Replicas.{Replicas}

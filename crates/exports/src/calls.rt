@@ -26,12 +26,7 @@ pub extern "C" fn sundrilga_make_calls(
     ensures made { result ≡ how_many buckets most rows (length calls.now) (length numbers.old) }
     ensures after { numbers.new ≡ put numbers.old 0 (told (blank (size_of buckets most rows)) (row_of result calls.now)) }
 {
-    let seat = Seat {
-        carry: 0,
-        flag: false,
-        tally: Replicas(0),
-    };
-    let mut seats = [seat; SEATS];
+    let mut seats = [Seat::<Replicas>::empty(); SEATS];
     let many = buckets as usize * most as usize;
     match Shape::check(buckets, most, rows, many) {
         Ok(shape) => make_row(&mut seats[0..many], shape, calls, numbers),

@@ -26,11 +26,7 @@ fn number_of<X: Drop>(outcome: Result<X, Refusal>) -> u64 {
 
 // The number that a look-up of this key is refused with, or 0.
 fn key_number(key: &[u8]) -> anyhow::Result<u64> {
-    let mut seats = [Seat {
-        carry: 0,
-        flag: false,
-        tally: Replicas(0),
-    }; 2];
+    let mut seats = [Seat::<Replicas>::empty(); 2];
     let Ok(shape) = Shape::check(2, 1, 1, seats.len()) else {
         return Err(anyhow!("the table does not open"));
     };

@@ -112,10 +112,9 @@ fn large_call(i: u32, traffic: bool) -> Record {
 // A paper of 1,900 calls under this header.
 pub fn large_paper(rt: &HostRuntime, header: Header) -> anyhow::Result<Vec<u8>> {
     let traffic = header.kind == <Traffic as Tally>::kind_number();
-    let mut records = Vec::new(rt.alloc());
-    for i in 0..LARGE_CALLS {
-        records.push(large_call(i, traffic))?;
-    }
+    let records: Vec<Record> = (0..LARGE_CALLS)
+        .map(|i| large_call(i, traffic))
+        .collect(rt.alloc())?;
     let mut paper = vec![in rt.alloc(); 0; 51200]?;
     match write_paper(header, records.as_slice(), paper.as_mut_slice()) {
         Ok(()) => Ok(paper),

@@ -5,17 +5,14 @@ use std::num::NonZeroU32;
 use std::test::Fail;
 
 fn range_of(size: u32) -> Result<NonZeroU32, Fail> {
-    match NonZeroU32::new(size) {
-        Some(range) => Ok(range),
-        None => Err(Fail::new("a range of 0")),
-    }
+    NonZeroU32::new(size).ok_or_else(|| Fail::new("a range of 0"))
 }
 
 // The bytes 1, 2, 3 and so on.
 fn key_of_64_bytes() -> [u8; 64] {
     let mut key = [0; 64];
-    for i in 0..64u8 {
-        key[i as usize] = i + 1;
+    for (byte, number) in key.iter_mut().zip(1..=64) {
+        *byte = number;
     }
     key
 }

@@ -1,5 +1,5 @@
 -- Bytes put into a buffer, one piece after another. Assumes nothing.
-use Rattle.std.proofs.Common.{◌≡◌, ℕ, zero, suc, ◌+◌, ◌-◌, ◌/◌, ◌<◌, ◌≤◌, List, [], ◌∷◌, ◌++◌, length, take, drop, set, sym, refl, ap, ◌∙◌, append_assoc, add-one, arith, length-append}
+use Rattle.std.proofs.Common.{◌≡◌, ℕ, zero, suc, ◌+◌, ◌-◌, ◌/◌, ◌<◌, ◌≤◌, List, [], ◌∷◌, ◌++◌, length, take, drop, set, sym, refl, ap, ◌∙◌, append_assoc, add-one, arith, length-append, length-drop}
 use borrow.Rule.Slice.PartMut.{put_mid}
 use Rattle.std.proofs.lemmas.List.{set_split, drop-drop, drop_at, take_at, length-take-le}
 use Rattle.numbers.specs.Buffers.{put}
@@ -42,3 +42,12 @@ put_put buffer xs ys place next is room =
     (λ i. before i ++ (ys ++ behind i))
     ∙ append_assoc front xs (ys ++ drop (place + length (xs ++ ys)) buffer)
     ∙ ap (λ l. front ++ l) (sym (append_assoc xs ys (drop (place + length (xs ++ ys)) buffer)))
+
+-- no bytes, put at the start
+pub put_none : (buffer : List ℕ) → buffer ≡ put buffer 0 []
+unfolding put
+put_none buffer = refl
+
+pub length_put : (buffer bytes : List ℕ) (place : ℕ) → place + length bytes ≤ length buffer → length (put buffer place bytes) ≡ length buffer
+unfolding put
+length_put buffer bytes place room = simp (length-append, length-drop) (omega (arith, length-take-le place buffer (omega arith)))

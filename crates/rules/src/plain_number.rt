@@ -2,7 +2,7 @@ ghost use Rattle.rules.specs.Rules.{plain_number, plain_rule};
 ghost use Rattle.std.proofs.Common.{rules};
 
 use crate::rule::Rule;
-use numbers::little_endian::read_u64;
+use numbers::little_endian::read;
 use std::num::NonZeroU32;
 
 // The number in the key's first eight bytes, or all if fewer, least byte first, by its remainder.
@@ -22,6 +22,6 @@ impl Rule for PlainNumber {
         let mut first = [0; 8];
         let count = key.len().min(8);
         first[..count].copy_from_slice(&key[..count]);
-        (read_u64(&first, 0) % u64::from(range.get())) as u32
+        (read::<u64>(&first, 0) % u64::from(range.get())) as u32
     }
 }

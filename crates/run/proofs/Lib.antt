@@ -2,6 +2,6 @@ mod Calling
 mod Papers
 mod Printers
 mod Printing
-pub mod Running
+mod Running
 mod Spelled
 mod Written

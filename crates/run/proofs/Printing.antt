@@ -3,6 +3,7 @@ use Rattle.std.proofs.Common.{◌≡◌, ℕ, ◌<◌, ◌≤◌, false, cond, l
 use Rattle.std.proofs.lemmas.List.{drop-append-le, length-take-le, take-append-drop}
 use Rattle.std.proofs.lemmas.Bool.{le-ltb}
 use Rattle.std.proofs.lemmas.Fmt.{length-decimal-le}
+use Rattle.blocks.specs.declared.fault.Figures.{Figures}
 use Rattle.numbers.specs.Buffers.{put}
 use Rattle.paper.specs.declared.header.Header.{Header}
 use Rattle.paper.specs.declared.fault.PaperFault.{PaperFault}
@@ -16,15 +17,15 @@ use Rattle.run.specs.Printed.{printed, printed_as}
 use Rattle.run.specs.Runs.{Ran, Wrote}
 use Rattle.run.proofs.Written.{figure_long, fault_long}
 
-pub fault_short : (number block place : ℕ) → number < 1000 → block < 1000 → place < 1000 → length (fault_line number block place) ≤ 14
-fault_short number block place n b p =
-    let long = fault_long number block place in
-    let fn = figure_long number 32 in
-    let fb = figure_long block 32 in
-    let fp = figure_long place 10 in
-    let ln = length-decimal-le 3 number (omega arith) (omega arith) (omega arith) in
-    let lb = length-decimal-le 3 block (omega arith) (omega arith) (omega arith) in
-    let lp = length-decimal-le 3 place (omega arith) (omega arith) (omega arith) in
+pub fault_short : (f : Figures) → f.number < 1000 → f.block < 1000 → f.«record» < 1000 → length (fault_line f) ≤ 14
+fault_short f n b p =
+    let long = fault_long f in
+    let fn = figure_long f.number 32 in
+    let fb = figure_long f.block 32 in
+    let fp = figure_long f.«record» 10 in
+    let ln = length-decimal-le 3 f.number (omega arith) (omega arith) (omega arith) in
+    let lb = length-decimal-le 3 f.block (omega arith) (omega arith) (omega arith) in
+    let lp = length-decimal-le 3 f.«record» (omega arith) (omega arith) (omega arith) in
     omega arith
 
 put_front : (out bytes : List ℕ) → put out 0 bytes ≡ bytes ++ drop (length bytes) out
@@ -72,7 +73,7 @@ module _ (k : ℕ) (paper out front mid : List ℕ) (roomy : k ≤ length out) (
       by_check (Err fault) ran = let told = ran.answer in cc
 
   pub fault_answered : (why : RunFault) (fault : PaperFault) (end : List ℕ) (n : ℕ) → why ≡ InPaper fault → n ≤ k → Ran front (paper_checked paper) (paper_records paper) (Err why) mid →
-      Wrote mid (fault_line (figures_of fault).0 (figures_of fault).1 (figures_of fault).2) n end → Answered k out (end ++ drop k out) (printed paper) n
+      Wrote mid (fault_line (figures_of fault)) n end → Answered k out (end ++ drop k out) (printed paper) n
   unfolding printed
   fault_answered why fault end n so few ran wrote = by_check (paper_checked paper) ran
     where

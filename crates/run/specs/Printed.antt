@@ -76,7 +76,7 @@ all_lines h records =
 -- by what the check of the paper answers
 abbrev pub printed_as : Result Header PaperFault → List Record → List ℕ
 printed_as (Ok h) records = all_lines h records
-printed_as (Err fault) records = fault_line (figures_of fault).0 (figures_of fault).1 (figures_of fault).2
+printed_as (Err fault) records = fault_line (figures_of fault)
 
 -- the lines of a sound paper's records, or the line of its first fault
 unfoldable pub printed : List ℕ → List ℕ

@@ -67,10 +67,9 @@ pub(crate) fn call_line<T: Figured + Copy, R: Rule>(
     table: &mut Table<'_, T>,
     rule: &R,
     record: &Record,
-    words: &mut [u32],
+    words: &mut [u32; WORDS],
     place: u64,
 ) -> Line
-    requires { length words.old ≡ lent }
     ensures { (b : Book T) → Keeps T.Tally.kind table.old b →
         Called T.Tally.kind (R.Rule.meaning rule.now) T.Figured.shown T.Figured.made b place «record».now result table.new }
 {

@@ -30,14 +30,11 @@ pub(crate) fn write_lines<T: Figured + Copy, R: Rule>(
     ensures { Wrote out.old (lines T.Tally.kind (R.Rule.meaning rule.now) T.Figured.shown T.Figured.made (blank (size shape)) 1 (paper_records paper.now.bytes.now)) result out.new }
 {
     let mut table = Table::open(seats, shape);
-    let mut reader = Reader::new(paper.bytes);
     let mut printer = Printer { out, at: 0 };
     let mut words = [0; WORDS];
-    let mut place = 0;
-    while let Some(record) = reader.next() {
-        let line = call_line(&mut table, rule, &record, &mut words, place + 1);
+    for (i, record) in Reader::new(paper.bytes).enumerate() {
+        let line = call_line(&mut table, rule, &record, &mut words, i as u64 + 1);
         printer.print_line(line);
-        place += 1;
     }
     printer.at
 }

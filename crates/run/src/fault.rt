@@ -2,6 +2,7 @@ ghost use Rattle.std.specs.Prelude.{◌≡◌};
 ghost use Rattle.run.specs.declared.fault.RunFault.TheVariants.{InPaper};
 ghost use Rattle.run.specs.Faults.{figures_of};
 
+use blocks::fault::Figures;
 use paper::fault::PaperFault;
 
 // Why a paper is not run.
@@ -14,12 +15,16 @@ pub enum RunFault {
 }
 
 impl RunFault {
-    // The fault's number, the block that it is found in, from 0, and the record, from 1, or 0 where none is meant.
-    pub fn figures(self) -> (u8, u8, u8)
+    // The figures by which the fault is told.
+    pub fn figures(self) -> Figures
         ensures { result ≡ figures_of self }
     {
         match self {
-            RunFault::Room => (13, 0, 0),
+            RunFault::Room => Figures {
+                number: 13,
+                block: 0,
+                record: 0,
+            },
             RunFault::InPaper(fault) => fault.figures(),
         }
     }

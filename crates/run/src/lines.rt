@@ -3,6 +3,7 @@ ghost use Rattle.std.specs.Prelude.{[], ◌∷◌, decimal};
 ghost use Rattle.run.specs.Lines.{figure, line as line_bytes, fault_line};
 ghost use Rattle.run.specs.Printers.{Fits, Prints};
 
+use blocks::fault::Figures;
 use numbers::decimal::write_decimal;
 
 // What is printed of a call: its place in the paper, from 1, the number of its refusal, or 0, and two figures.
@@ -32,16 +33,16 @@ impl Printer<'_> {
         self.print_figure(line.second, b'\n');
     }
 
-    // The line of a fault, by its number, its block and its record.
-    pub(crate) fn print_fault(&mut self, number: u64, block: u64, record: u64)
-        requires { Fits self.old (fault_line number block «record») }
-        ensures { Prints self.old (fault_line number block «record») self.new }
+    // The line of a fault.
+    pub(crate) fn print_fault(&mut self, figures: Figures)
+        requires { Fits self.old (fault_line figures) }
+        ensures { Prints self.old (fault_line figures) self.new }
     {
         self.print_byte(b'F');
         self.print_byte(b' ');
-        self.print_figure(number, b' ');
-        self.print_figure(block, b' ');
-        self.print_figure(record, b'\n');
+        self.print_figure(u64::from(figures.number), b' ');
+        self.print_figure(u64::from(figures.block), b' ');
+        self.print_figure(u64::from(figures.record), b'\n');
     }
 
     // Prints a number, and a byte behind it.

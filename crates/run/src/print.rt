@@ -42,11 +42,10 @@ fn print_sound(paper: &[u8], out: &mut [u8; MOST_PRINTED]) -> Result<usize, RunF
 // Writes the line of a paper's fault, and gives how many bytes it is.
 fn write_fault(fault: PaperFault, out: &mut [u8; MOST_PRINTED]) -> usize
     ensures short { result ≤ 14 }
-    ensures line { Wrote out.old (fault_line (figures_of fault).0 (figures_of fault).1 (figures_of fault).2) result out.new }
+    ensures line { Wrote out.old (fault_line (figures_of fault)) result out.new }
 {
-    let (number, block, record) = fault.figures();
     let mut printer = Printer { out, at: 0 };
-    printer.print_fault(u64::from(number), u64::from(block), u64::from(record));
+    printer.print_fault(fault.figures());
     printer.at
 }
 

@@ -37,14 +37,6 @@ fn shape_of(header: Header) -> Shape
     }
 }
 
-fn empty_seat<T: Tally>() -> Seat<T> {
-    Seat {
-        carry: 0,
-        flag: false,
-        tally: T::empty(),
-    }
-}
-
 // The lines of a sound paper by its header's rule, on these seats.
 fn write_on<T: Figured + Copy>(
     seats: &mut [Seat<T>],
@@ -68,8 +60,8 @@ pub(crate) fn write_by_kind(paper: &SoundPaper<'_>, out: &mut [u8; MOST_PRINTED]
     ensures { Wrote out.old (all_lines paper.now.header (paper_records paper.now.bytes.now)) result out.new }
 {
     if paper.header.kind == <Replicas as Tally>::kind_number() {
-        write_on(&mut [empty_seat::<Replicas>(); SEATS], paper, out)
+        write_on(&mut [Seat::<Replicas>::empty(); SEATS], paper, out)
     } else {
-        write_on(&mut [empty_seat::<Traffic>(); SEATS], paper, out)
+        write_on(&mut [Seat::<Traffic>::empty(); SEATS], paper, out)
     }
 }

@@ -1,5 +1,5 @@
 use Rattle.std.proofs.Common.{◌*◌, ◌/◌, ◌≤◌, min, cond, length, is_some, sym, ap, subst, mul-le-mul, arith}
-use Rattle.run.proofs.Running.{put_none}
+use Rattle.numbers.proofs.Puts.{put_none}
 use Rattle.exports.proofs.calls.sundrilga_make_calls.Goals as goal
 
 pub slice_bounds-seats-end : goal.slice_bounds-seats-end
