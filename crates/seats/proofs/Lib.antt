@@ -1,4 +1,3 @@
-pub mod Placing
 pub mod Sitting
 pub mod Shown
 pub mod Seated

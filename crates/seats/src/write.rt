@@ -1,4 +1,5 @@
-// Reading and writing one seat, and emptying all.
+// Reading and writing one seat, and emptying all. Three functions ask that the seat is there: a type for such an index would
+// have to hold the lent slice, which its caller goes on using.
 ghost use Rattle.std.specs.Prelude.{◌≡◌, ◌<◌, length, replicate, slice_set};
 ghost use Rattle.seats.specs.Seats.{at, seat, vacant};
 

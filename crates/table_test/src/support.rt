@@ -17,3 +17,8 @@ pub fn number_of<X: Drop>(outcome: Result<X, Refusal>) -> u8 {
         Err(refusal) => refusal.number(),
     }
 }
+
+// The number of the refusal, if the call was refused.
+pub fn refusal_of<X: Drop>(outcome: Result<X, Refusal>) -> Option<u8> {
+    outcome.err().map(Refusal::number)
+}
