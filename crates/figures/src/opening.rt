@@ -21,7 +21,9 @@ const OPENINGS: [(&str, [u32; 3], usize, u64); 7] = [
 
 // The number by which an outcome is told: that of the refusal, or 0.
 fn number_of<X: Drop>(outcome: Result<X, Refusal>) -> u64 {
-    outcome.err().map_or(0, |refusal| u64::from(refusal.number()))
+    outcome
+        .err()
+        .map_or(0, |refusal| u64::from(refusal.number()))
 }
 
 // The number that a look-up of this key is refused with, or 0.
