@@ -1,7 +1,8 @@
 ghost use Rattle.std.specs.Prelude.{◌≡◌};
 ghost use Rattle.blocks.specs.Faults.{figures_of, in_record};
 
-// An unfit record: its block, from 0, and its place in the block, from 1, or 0 for the bytes behind the last record.
+// An unfit record: its block, from 0, and its place in the block, from 1, or 0 for the bytes behind the last record. That 0 is
+// the number which the fault's line has: an Option would only be turned back into it.
 #[derive(Clone, Copy, PartialEq, Eq, Debug)]
 pub struct RecordFault {
     pub block: u8,

@@ -24,7 +24,7 @@ pub enum Outcome<T> {
 // What a call answers: what comes of it, or why it is turned away.
 pub type Answer<T> = Result<Outcome<T>, Refusal>;
 
-// The number of the refusal, or 0.
+// The number of the refusal, or 0. That 0 is the figure which a call's line has where it is not turned away.
 pub fn number_of<T>(answer: &Answer<T>) -> u8
     ensures { result ≡ answer_number answer.now }
 {

@@ -9,7 +9,7 @@ use seats::seat::Seat;
 use seats::shape::Shape;
 use tallies::replicas::Replicas;
 
-// The seats of the largest table.
+// The seats of the largest table. They lie in an array, since the library takes no memory from the heap.
 const SEATS: usize = 32_768;
 
 // Makes calls one after another on a table of replicas that is opened with these numbers, under the plain-number rule. Each
@@ -30,6 +30,7 @@ pub extern "C" fn sundrilga_make_calls(
     let many = buckets as usize * most as usize;
     match Shape::check(buckets, most, rows, many) {
         Ok(shape) => make_row(&mut seats[0..many], shape, calls, numbers),
+        // C has no Result
         Err(_) => 0,
     }
 }

@@ -12,7 +12,8 @@ pub(crate) const PIECE: usize = 5;
 // How many work words are lent: two for each bucket of the longest table.
 pub(crate) const WORDS: usize = 8192;
 
-// What five bytes ask of the table. The codes are those of papers' records, and of the C interface. A code that names no other call asks for a look-up.
+// What five bytes ask of the table. The codes are those of papers' records, and numbers, since C passes them. A code that
+// names no other call asks for a look-up.
 pub(crate) fn request_of<'k>(piece: &'k [u8; PIECE]) -> Request<'k, Replicas>
     ensures { asked lent result ≡ piece_asks piece.now }
 {

@@ -19,7 +19,7 @@ const OPENINGS: [(&str, [u32; 3], usize, u64); 7] = [
     ("opening on a seat too few", [2, 1, 1], 1, 3),
 ];
 
-// The number by which an outcome is told: that of the refusal, or 0.
+// The figure that is printed of an outcome: the number of the refusal, or 0.
 fn number_of<X: Drop>(outcome: Result<X, Refusal>) -> u64 {
     outcome
         .err()

@@ -63,7 +63,7 @@ fn check_records(block: &[u8; BLOCK], place: u8) -> Result<(), RecordFault>
     Ok(())
 }
 
-// The place from 1 of the record in which a byte lies, or 0 behind the last.
+// The place from 1 of the record in which a byte lies, or 0 behind the last, as the fault's line has it.
 fn record_at(byte: usize) -> u8
     requires { byte < 504 }
     ensures { result ≡ record_at byte }

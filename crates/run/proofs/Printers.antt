@@ -1,5 +1,5 @@
 -- Bytes printed one piece after another. Assumes nothing.
-use Rattle.std.proofs.Common.{◌≡◌, ℕ, List, [], ◌++◌, length, sym, refl, ap, ◌∙◌, arith, length-append}
+use Rattle.std.proofs.Common.{◌≡◌, ℕ, ◌≤◌, List, [], ◌++◌, length, sym, refl, ap, ◌∙◌, arith, length-append}
 use Rattle.numbers.specs.Buffers.{put}
 use Rattle.numbers.proofs.Puts.{put_put, length_put}
 use Rattle.run.specs.declared.lines.Printer.{Printer}
@@ -33,5 +33,5 @@ unfolding put
 prints_none p start = record { next = omega arith; after = ap (λ k. put p.out.now k []) (sym start); lent = refl }
 
 -- what is printed from a buffer's start on is written there
-pub wrote_all : {p q : Printer} {bytes : List ℕ} → Prints p bytes q → p.at ≡ 0 → Wrote p.out.now bytes q.at q.out.now
-wrote_all {p} {q} {bytes} done start = record { next = omega (arith, done.next); after = done.after ∙ ap (λ k. put p.out.now k bytes) start }
+pub wrote_all : {p q : Printer} {bytes : List ℕ} → Prints p bytes q → p.at ≡ 0 → length bytes ≤ length p.out.now → Wrote p.out.now bytes q.at q.out.now
+wrote_all {p} {q} {bytes} done start roomy = record { room = roomy; next = omega (arith, done.next); after = done.after ∙ ap (λ k. put p.out.now k bytes) start }

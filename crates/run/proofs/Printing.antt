@@ -1,5 +1,5 @@
 -- What is printed, by the check of the paper and the room in the buffer. Assumes nothing.
-use Rattle.std.proofs.Common.{◌≡◌, ℕ, ◌<◌, ◌≤◌, false, cond, ltb, List, ◌++◌, length, take, drop, Ok, Err, Result, sym, ap, ◌∙◌, subst, append_assoc, arith, length-append}
+use Rattle.std.proofs.Common.{◌≡◌, ℕ, ◌<◌, ◌≤◌, Bool, true, false, cond, ltb, List, ◌++◌, length, take, drop, Ok, Err, Result, sym, refl, ap, ◌∙◌, subst, append_assoc, arith, ltb-false}
 use Rattle.std.proofs.lemmas.List.{drop-append-le, length-take-le, take-append-drop}
 use Rattle.std.proofs.lemmas.Bool.{le-ltb}
 use Rattle.std.proofs.lemmas.Fmt.{length-decimal-le}
@@ -7,14 +7,15 @@ use Rattle.blocks.specs.declared.fault.Figures.{Figures}
 use Rattle.numbers.specs.Buffers.{put}
 use Rattle.paper.specs.declared.header.Header.{Header}
 use Rattle.paper.specs.declared.fault.PaperFault.{PaperFault}
+use Rattle.paper.specs.declared.«record».Record.{Record}
 use Rattle.paper.specs.Checks.{paper_checked}
 use Rattle.paper.specs.Faults.{figures_of}
 use Rattle.paper.specs.Reading.{paper_records}
 use Rattle.run.specs.Lines.{fault_line}
 use Rattle.run.specs.declared.fault.RunFault.{RunFault}
 use Rattle.run.specs.declared.fault.RunFault.TheVariants.{Room, InPaper}
-use Rattle.run.specs.Printed.{printed, printed_as}
-use Rattle.run.specs.Runs.{Ran, Wrote}
+use Rattle.run.specs.Printed.{all_lines, printed, printed_as}
+use Rattle.run.specs.Runs.{Ran, Wrote, left, ran}
 use Rattle.run.proofs.Written.{figure_long, fault_long}
 
 pub fault_short : (f : Figures) → f.number < 1000 → f.block < 1000 → f.«record» < 1000 → length (fault_line f) ≤ 14
@@ -41,53 +42,85 @@ wrote_front k out bytes roomy few =
     ∙ ap (λ x. bytes ++ x) (sym (drop-append-le (length bytes) (take k out) (drop k out) (omega arith)) ∙ ap (drop (length bytes)) (take-append-drop k out))
     ∙ sym (put_front out bytes)
 
--- what is answered, and left, where the first k bytes of a buffer are lent on for writing
-pub record Answered (k : ℕ) (out exit all : List ℕ) (n : ℕ) : Type 0 where
-  pub answer : ◌≡◌ {A = Result ℕ RunFault} (Ok n) (cond (ltb (length out) k) (Err Room) (Ok (length all)))
-  pub after : exit ≡ cond (ltb (length out) k) out (put out 0 all)
-
-answered : (k : ℕ) (out front end all : List ℕ) (n : ℕ) → k ≤ length out → front ≡ take k out → n ≤ k → Wrote front all n end → Answered k out (end ++ drop k out) all n
-answered k out front end all n roomy is few wrote =
-    let enough : ltb (length out) k ≡ false = le-ltb (length out) k roomy in
+-- where the first k bytes of a buffer are lent on for writing
+wrote_whole : (k : ℕ) (out front mid all : List ℕ) (n : ℕ) → k ≤ length out → front ≡ take k out → Wrote front all n mid → Wrote out all n (mid ++ drop k out)
+wrote_whole k out front mid all n roomy is wrote =
+    let long : length front ≡ k = ap length is ∙ length-take-le k out roomy in
+    let few = wrote.room in
     record {
-      answer = ap Ok wrote.next ∙ sym (ap (λ s. cond s (Err Room) (Ok (length all))) enough);
-      after =
-          ap (λ x. x ++ drop k out) (wrote.after ∙ ap (λ x. put x 0 all) is) ∙ wrote_front k out all roomy (omega (arith, wrote.next))
-          ∙ sym (ap (λ s. cond s out (put out 0 all)) enough);
+      room = omega arith;
+      next = wrote.next;
+      after = ap (λ x. x ++ drop k out) (wrote.after ∙ ap (λ x. put x 0 all) is) ∙ wrote_front k out all roomy (omega arith);
     }
 
--- as many as there is room for
-few_written : (front all end : List ℕ) (n k : ℕ) → length end ≡ k → Wrote front all n end → n ≤ k
-few_written front all end n k long wrote = omega (arith, wrote.next, ap length (wrote.after ∙ put_front front all), length-append all (drop (length all) front))
+-- what a run leaves, where there is room: nothing is written for a paper that is not sound
+pub ran_unsound : (out front : List ℕ) (checked : Result Header PaperFault) (records : List Record) (fault : PaperFault) (outcome : Result ℕ RunFault) → 68400 ≤ length out → front ≡ take 68400 out → checked ≡ Err fault →
+    outcome ≡ Err (InPaper fault) → Ran out checked records outcome (front ++ drop 68400 out)
+ran_unsound out front checked records fault outcome roomy is so answer =
+    let enough : ltb (length out) 68400 ≡ false = le-ltb (length out) 68400 roomy in
+    record {
+      answer = answer ∙ ap (λ r. ran r records) (sym so) ∙ sym (ap (λ s. cond s (Err Room) (ran checked records)) enough);
+      after =
+          ap (λ x. x ++ drop 68400 out) is ∙ take-append-drop 68400 out ∙ ap (λ r. left out r records) (sym so) ∙ sym (ap (λ s. cond s out (left out checked records)) enough);
+    }
 
--- by what the outcome of a run tells of the check of the paper
-module _ (k : ℕ) (paper out front mid : List ℕ) (roomy : k ≤ length out) (is : front ≡ take k out) where
-  pub sound_answered : (n : ℕ) → length mid ≡ k → Ran front (paper_checked paper) (paper_records paper) (Ok n) mid → Answered k out (mid ++ drop k out) (printed paper) n
+pub ran_sound : (out front mid : List ℕ) (checked : Result Header PaperFault) (records : List Record) (h : Header) (n : ℕ) → 68400 ≤ length out → front ≡ take 68400 out → checked ≡ Ok h →
+    Wrote front (all_lines h records) n mid → Ran out checked records (Ok n) (mid ++ drop 68400 out)
+ran_sound out front mid checked records h n roomy is so wrote =
+    let enough : ltb (length out) 68400 ≡ false = le-ltb (length out) 68400 roomy in
+    let whole = wrote_whole 68400 out front mid (all_lines h records) n roomy is wrote in
+    record {
+      answer = ap Ok whole.next ∙ ap (λ r. ran r records) (sym so) ∙ sym (ap (λ s. cond s (Err Room) (ran checked records)) enough);
+      after = whole.after ∙ ap (λ r. left out r records) (sym so) ∙ sym (ap (λ s. cond s out (left out checked records)) enough);
+    }
+
+-- what is answered, and left
+pub record Answered (short : Bool) (out end all : List ℕ) (outcome : Result ℕ RunFault) : Type 0 where
+  pub answer : outcome ≡ cond short (Err Room) (Ok (length all))
+  pub after : end ≡ cond short out (put out 0 all)
+
+-- by what the outcome of a run tells of the room and of the check of the paper
+module _ (paper out mid : List ℕ) where
+  pub sound_answered : (n : ℕ) → Ran out (paper_checked paper) (paper_records paper) (Ok n) mid → Answered (ltb (length out) 68400) out mid (printed paper) (Ok n)
   unfolding printed
-  sound_answered n long ran = by_check (paper_checked paper) ran
+  sound_answered n told = by_check (ltb (length out) 68400) (paper_checked paper) told.answer told.after
     where
-      by_check : (checked : Result Header PaperFault) → Ran front checked (paper_records paper) (Ok n) mid → Answered k out (mid ++ drop k out) (printed_as checked (paper_records paper)) n
-      by_check (Ok h) ran =
-          let wrote : Wrote front (printed_as (Ok h) (paper_records paper)) n mid = record { next = let told = ran.answer in cc; after = ran.after } in
-          answered k out front mid (printed_as (Ok h) (paper_records paper)) n roomy is (few_written front (printed_as (Ok h) (paper_records paper)) mid n k long wrote) wrote
-      by_check (Err fault) ran = let told = ran.answer in cc
+      by_check : (short : Bool) (checked : Result Header PaperFault) → Ok n ≡ cond short (Err Room) (ran checked (paper_records paper)) → mid ≡ cond short out (left out checked (paper_records paper)) →
+          Answered short out mid (printed_as checked (paper_records paper)) (Ok n)
+      by_check true checked answer after = cc
+      by_check false (Ok h) answer after = record { answer = answer; after = after }
+      by_check false (Err fault) answer after = cc
 
-  pub fault_answered : (why : RunFault) (fault : PaperFault) (end : List ℕ) (n : ℕ) → why ≡ InPaper fault → n ≤ k → Ran front (paper_checked paper) (paper_records paper) (Err why) mid →
-      Wrote mid (fault_line (figures_of fault)) n end → Answered k out (end ++ drop k out) (printed paper) n
-  unfolding printed
-  fault_answered why fault end n so few ran wrote = by_check (paper_checked paper) ran
+  pub room_answered : (why : RunFault) → why ≡ Room → Ran out (paper_checked paper) (paper_records paper) (Err why) mid → Answered (ltb (length out) 68400) out mid (printed paper) (Err Room)
+  room_answered why is told = by_check (ltb (length out) 68400) (paper_checked paper) told.answer told.after
     where
-      by_check : (checked : Result Header PaperFault) → Ran front checked (paper_records paper) (Err why) mid → Answered k out (end ++ drop k out) (printed_as checked (paper_records paper)) n
-      by_check (Ok h) ran = let told = ran.answer in cc
-      by_check (Err other) ran =
-          let told = ran.answer in
-          let same : fault ≡ other = cc in
-          answered k out front end (printed_as (Err other) (paper_records paper)) n roomy is few
-          (subst (λ f. Wrote front (printed_as (Err f) (paper_records paper)) n end) same (subst (λ b. Wrote b (printed_as (Err fault) (paper_records paper)) n end) ran.after wrote))
+      by_check : (short : Bool) (checked : Result Header PaperFault) → Err why ≡ cond short (Err Room) (ran checked (paper_records paper)) → mid ≡ cond short out (left out checked (paper_records paper)) →
+          Answered short out mid (printed paper) (Err Room)
+      by_check true checked answer after = record { answer = refl; after = after }
+      by_check false (Ok h) answer after = cc
+      by_check false (Err fault) answer after = cc
 
-  pub never_room : (why : RunFault) → why ≡ Room → Ran front (paper_checked paper) (paper_records paper) (Err why) mid → ⊥
-  never_room why so ran = by_check (paper_checked paper) ran
-    where
-      by_check : (checked : Result Header PaperFault) → Ran front checked (paper_records paper) (Err why) mid → ⊥
-      by_check (Ok h) ran = let told = ran.answer in cc
-      by_check (Err fault) ran = let told = ran.answer in cc
+  module _ (why : RunFault) (fault : PaperFault) (is : why ≡ InPaper fault) where
+    -- there is room, and nothing is written
+    pub fault_leaves : Ran out (paper_checked paper) (paper_records paper) (Err why) mid → (68400 ≤ length out) × (mid ≡ out)
+    fault_leaves told = let (roomy, same) = by_check (ltb (length out) 68400) (paper_checked paper) told.answer told.after in (ltb-false (length out) 68400 roomy, same)
+      where
+        by_check : (short : Bool) (checked : Result Header PaperFault) → Err why ≡ cond short (Err Room) (ran checked (paper_records paper)) → mid ≡ cond short out (left out checked (paper_records paper)) →
+            (short ≡ false) × (mid ≡ out)
+        by_check true checked answer after = cc
+        by_check false (Ok h) answer after = cc
+        by_check false (Err other) answer after = (refl, after)
+
+    pub fault_answered : (end : List ℕ) (n : ℕ) → Ran out (paper_checked paper) (paper_records paper) (Err why) mid → Wrote mid (fault_line (figures_of fault)) n end →
+        Answered (ltb (length out) 68400) out end (printed paper) (Ok n)
+    unfolding printed
+    fault_answered end n told wrote = by_check (ltb (length out) 68400) (paper_checked paper) told.answer told.after
+      where
+        by_check : (short : Bool) (checked : Result Header PaperFault) → Err why ≡ cond short (Err Room) (ran checked (paper_records paper)) → mid ≡ cond short out (left out checked (paper_records paper)) →
+            Answered short out end (printed_as checked (paper_records paper)) (Ok n)
+        by_check true checked answer after = cc
+        by_check false (Ok h) answer after = cc
+        by_check false (Err other) answer after =
+            let same : fault ≡ other = cc in
+            let told : Wrote out (fault_line (figures_of other)) n end = subst (λ f. Wrote out (fault_line (figures_of f)) n end) same (subst (λ b. Wrote b (fault_line (figures_of fault)) n end) after wrote) in
+            record { answer = ap Ok told.next; after = told.after }

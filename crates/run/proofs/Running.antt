@@ -82,9 +82,11 @@ module _ {V : Type 0} (k : Kind V) (rule : Meaning) (shown : V → ℕ × ℕ) (
         }
 
   -- no record is left
-  pub gone : {all : List ℕ} {first p : Printer} {t : Table V} {coming : List Record} {place : ℕ} → Going all first t coming p place → coming ≡ [] → Prints first all p
+  pub gone : {all : List ℕ} {first p : Printer} {t : Table V} {coming : List Record} {place : ℕ} → Going all first t coming p place → coming ≡ [] → Prints first all p × (length all ≤ 68400)
   unfolding lines
   gone {all} {first} {p} {t} {coming} {place} going none =
       let rest : lines k rule shown made going.book (place + 1) coming ≡ [] = ap (lines k rule shown made going.book (place + 1)) none in
       let is : going.so_far ≡ all = sym (append-nil going.so_far) ∙ ap (λ x. going.so_far ++ x) (sym rest) ∙ going.whole in
-      subst (λ x. Prints first x p) is going.printed
+      let short = going.short in
+      let few = going.few in
+      (subst (λ x. Prints first x p) is going.printed, omega (arith, ap length is))

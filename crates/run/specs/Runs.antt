@@ -1,15 +1,16 @@
 -- What a run leaves in a buffer. Assumes nothing.
-use Rattle.std.specs.Prelude.{◌≡◌, ℕ, List, Ok, Err, Result, length}
+use Rattle.std.specs.Prelude.{◌≡◌, ℕ, ◌≤◌, cond, List, Ok, Err, Result, length, nat_lt}
 use Rattle.numbers.specs.Buffers.{put}
 use Rattle.paper.specs.declared.header.Header.{Header}
 use Rattle.paper.specs.declared.fault.PaperFault.{PaperFault}
 use Rattle.paper.specs.declared.«record».Record.{Record}
 use Rattle.run.specs.declared.fault.RunFault.{RunFault}
-use Rattle.run.specs.declared.fault.RunFault.TheVariants.{InPaper}
+use Rattle.run.specs.declared.fault.RunFault.TheVariants.{Room, InPaper}
 use Rattle.run.specs.Printed.{all_lines}
 
--- so many bytes are written, these, at the start, and the rest is as it was
+-- so many bytes are written, these, at the start, where there is room for them, and the rest is as it was
 pub record Wrote (before bytes : List ℕ) (n : ℕ) (end : List ℕ) : Type 0 where
+  pub room : length bytes ≤ length before
   pub next : n ≡ length bytes
   pub after : end ≡ put before 0 bytes
 
@@ -22,6 +23,7 @@ abbrev pub left : List ℕ → Result Header PaperFault → List Record → List
 left before (Ok h) records = put before 0 (all_lines h records)
 left before (Err fault) records = before
 
+-- the same where there is room for the most, and else nothing is written
 pub record Ran (before : List ℕ) (checked : Result Header PaperFault) (records : List Record) (outcome : Result ℕ RunFault) (end : List ℕ) : Type 0 where
-  pub answer : outcome ≡ ran checked records
-  pub after : end ≡ left before checked records
+  pub answer : outcome ≡ cond (nat_lt (length before) 68400) (Err Room) (ran checked records)
+  pub after : end ≡ cond (nat_lt (length before) 68400) before (left before checked records)

@@ -15,7 +15,8 @@ pub(crate) struct Line {
     pub(crate) second: u64,
 }
 
-// A lent buffer, of which the bytes before `at` are printed.
+// A lent buffer, of which the bytes before `at` are printed. It can be no Vec, since a run takes no memory from the heap; and
+// the library's formatting answers a Result, with an error that cannot come where there is room.
 #[derive(Drop)]
 pub(crate) struct Printer<'o> {
     pub(crate) out: &'o mut [u8],
@@ -40,9 +41,9 @@ impl Printer<'_> {
     {
         self.print_byte(b'F');
         self.print_byte(b' ');
-        self.print_figure(figures.number as u64, b' ');
-        self.print_figure(figures.block as u64, b' ');
-        self.print_figure(figures.record as u64, b'\n');
+        self.print_figure(u64::from(figures.number), b' ');
+        self.print_figure(u64::from(figures.block), b' ');
+        self.print_figure(u64::from(figures.record), b'\n');
     }
 
     // Prints a number, and a byte behind it.

@@ -26,11 +26,12 @@ pub fn most_printed() -> usize
     MOST_PRINTED
 }
 
-// Runs a paper on a table of its own, and writes a line for each call. Gives how many bytes they are, or why the paper is not
-// sound, and then writes nothing.
-fn print_sound(paper: &[u8], out: &mut [u8; MOST_PRINTED]) -> Result<usize, RunFault>
+// Runs a paper on a table of its own, and writes a line for each call. Gives how many bytes they are. Where there is no room,
+// or the paper is not sound, the buffer stays as it was.
+fn print_sound(paper: &[u8], out: &mut [u8]) -> Result<usize, RunFault>
     ensures { Ran out.old (paper_checked paper.now) (paper_records paper.now) result out.new }
 {
+    let out = out.first_chunk_mut().ok_or(RunFault::Room)?;
     let header = check_paper(paper)?;
     let paper = SoundPaper {
         bytes: paper,
@@ -40,9 +41,9 @@ fn print_sound(paper: &[u8], out: &mut [u8; MOST_PRINTED]) -> Result<usize, RunF
 }
 
 // Writes the line of a paper's fault, and gives how many bytes it is.
-fn write_fault(fault: PaperFault, out: &mut [u8; MOST_PRINTED]) -> usize
-    ensures short { result ≤ 14 }
-    ensures line { Wrote out.old (fault_line (figures_of fault)) result out.new }
+fn write_fault(fault: PaperFault, out: &mut [u8]) -> usize
+    requires { 14 ≤ length out.old }
+    ensures { Wrote out.old (fault_line (figures_of fault)) result out.new }
 {
     let mut printer = Printer { out, at: 0 };
     printer.print_fault(fault.figures());
@@ -55,12 +56,9 @@ pub fn print_paper(paper: &[u8], out: &mut [u8]) -> Result<usize, RunFault>
     ensures answer { result ≡ (if nat_lt (length out.old) 68400 then NotDone NoRoom else Done (length (printed paper.now))) }
     ensures after { out.new ≡ (if nat_lt (length out.old) 68400 then out.old else put out.old 0 (printed paper.now)) }
 {
-    let Some(lines) = out.first_chunk_mut() else {
-        return Err(RunFault::Room);
-    };
-    match print_sound(paper, lines) {
+    match print_sound(paper, out) {
         Ok(n) => Ok(n),
         Err(RunFault::Room) => Err(RunFault::Room),
-        Err(RunFault::InPaper(fault)) => Ok(write_fault(fault, lines)),
+        Err(RunFault::InPaper(fault)) => Ok(write_fault(fault, out)),
     }
 }

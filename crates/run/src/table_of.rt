@@ -21,7 +21,7 @@ use tallies::replicas::Replicas;
 use tallies::tally::Tally;
 use tallies::traffic::Traffic;
 
-// The seats of the largest table that a header may ask for.
+// The seats of the largest table that a header may ask for. They lie in an array, since a run takes no memory from the heap.
 const SEATS: usize = 2048;
 
 // The shape that a fit header asks for. It has seats enough.

@@ -62,6 +62,7 @@ returns g c =
     let k = g.T.Tally.kind in
     let rule = g.R.Rule.meaning c.args.rule.now in
     let none : records_left (enumerate_source c.loop-i.i-iterator) ≡ [] = search rules in
-    let done = wrote_all (gone k rule g.T.Figured.shown g.T.Figured.made c.loop-i.invariant.2 none) refl in
+    let whole = gone k rule g.T.Figured.shown g.T.Figured.made c.loop-i.invariant.2 none in
+    let done = wrote_all whole.0 refl (omega arith) in
     let all = ap (λ (s : Shape). lines k rule g.T.Figured.shown g.T.Figured.made (blank (size s)) 1 (paper_records c.args.paper.now.bytes.now)) c.open-table.ensures.numbers.0 in
-    record { next = done.next ∙ ap length all; after = done.after ∙ ap (put c.args.out.now 0) all }
+    record { room = omega (arith, whole.1, ap length all); next = done.next ∙ ap length all; after = done.after ∙ ap (put c.args.out.now 0) all }

@@ -1,4 +1,4 @@
-use Rattle.std.proofs.Common.{refl, arith, subst}
+use Rattle.std.proofs.Common.{◌≤◌, length, refl, subst, arith, rules}
 use Rattle.run.specs.Lines.{fault_line}
 use Rattle.run.specs.Runs.{Wrote}
 use Rattle.run.proofs.Printers.{wrote_all}
@@ -10,9 +10,6 @@ print_fault-requires c = omega (arith, fault_short c.figures.result (omega arith
 
 pub returns : goal.returns
 returns c =
-    let wrote = wrote_all c.print_fault.ensures refl in
-    let short = fault_short c.figures.result (omega arith) (omega arith) (omega arith) in
-    record {
-      short = omega (arith, wrote.next);
-      line = subst (λ f. Wrote c.args.out.now (fault_line f) c.print_fault.new.self.at c.print_fault.new.self.out.now) c.figures.ensures wrote;
-    }
+    let short : length (fault_line c.figures.result) ≤ length c.args.out.now = omega (arith, fault_short c.figures.result (omega arith) (omega arith) (omega arith)) in
+    let wrote = subst (λ f. Wrote c.args.out.now (fault_line f) c.print_fault.new.self.at c.print_fault.new.self.out.now) c.figures.ensures (wrote_all c.print_fault.ensures refl short) in
+    record { room = wrote.room; next = wrote.next; after = search rules }

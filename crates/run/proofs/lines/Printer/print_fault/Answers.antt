@@ -1,5 +1,6 @@
-use Rattle.std.proofs.Common.{[], ◌∷◌, ◌++◌}
+use Rattle.std.proofs.Common.{[], ◌∷◌, ◌++◌, sym, subst}
 use Rattle.run.specs.Lines.{figure, fault_line}
+use Rattle.run.specs.Printers.{Fits, Prints}
 use Rattle.run.proofs.Printers.{fits_behind, fits_front, prints_on}
 use Rattle.run.proofs.lines.Printer.print_fault.Goals as goal
 
@@ -38,7 +39,7 @@ print_figure-requires c =
     let room1 = fits_front p one (figure c.args.figures.block 32) room2 in
     let room0 = fits_front p mark (figure c.args.figures.number 32) room1 in
     let done0 = prints_on c.print_byte.ensures (32 ∷ []) room0 c.print_byte-2.ensures in
-    fits_behind done0 (figure c.args.figures.number 32) room1
+    subst (λ n. Fits c.print_byte-2.new.self (figure n 32)) (sym c.from.ensures) (fits_behind done0 (figure c.args.figures.number 32) room1)
 
 pub print_figure-requires-2 : goal.print_figure-requires-2
 unfolding fault_line
@@ -51,8 +52,8 @@ print_figure-requires-2 c =
     let room1 = fits_front p one (figure c.args.figures.block 32) room2 in
     let room0 = fits_front p mark (figure c.args.figures.number 32) room1 in
     let done0 = prints_on c.print_byte.ensures (32 ∷ []) room0 c.print_byte-2.ensures in
-    let done1 = prints_on done0 (figure c.args.figures.number 32) room1 c.print_figure.ensures in
-    fits_behind done1 (figure c.args.figures.block 32) room2
+    let done1 = prints_on done0 (figure c.args.figures.number 32) room1 (subst (λ n. Prints c.print_byte-2.new.self (figure n 32) c.print_figure.new.self) c.from.ensures c.print_figure.ensures) in
+    subst (λ n. Fits c.print_figure.new.self (figure n 32)) (sym c.from-2.ensures) (fits_behind done1 (figure c.args.figures.block 32) room2)
 
 pub print_figure-requires-3 : goal.print_figure-requires-3
 unfolding fault_line
@@ -65,9 +66,9 @@ print_figure-requires-3 c =
     let room1 = fits_front p one (figure c.args.figures.block 32) room2 in
     let room0 = fits_front p mark (figure c.args.figures.number 32) room1 in
     let done0 = prints_on c.print_byte.ensures (32 ∷ []) room0 c.print_byte-2.ensures in
-    let done1 = prints_on done0 (figure c.args.figures.number 32) room1 c.print_figure.ensures in
-    let done2 = prints_on done1 (figure c.args.figures.block 32) room2 c.print_figure-2.ensures in
-    fits_behind done2 (figure c.args.figures.«record» 10) c.requires
+    let done1 = prints_on done0 (figure c.args.figures.number 32) room1 (subst (λ n. Prints c.print_byte-2.new.self (figure n 32) c.print_figure.new.self) c.from.ensures c.print_figure.ensures) in
+    let done2 = prints_on done1 (figure c.args.figures.block 32) room2 (subst (λ n. Prints c.print_figure.new.self (figure n 32) c.print_figure-2.new.self) c.from-2.ensures c.print_figure-2.ensures) in
+    subst (λ n. Fits c.print_figure-2.new.self (figure n 10)) (sym c.from-3.ensures) (fits_behind done2 (figure c.args.figures.«record» 10) c.requires)
 
 pub returns : goal.returns
 unfolding fault_line
@@ -80,6 +81,6 @@ returns c =
     let room1 = fits_front p one (figure c.args.figures.block 32) room2 in
     let room0 = fits_front p mark (figure c.args.figures.number 32) room1 in
     let done0 = prints_on c.print_byte.ensures (32 ∷ []) room0 c.print_byte-2.ensures in
-    let done1 = prints_on done0 (figure c.args.figures.number 32) room1 c.print_figure.ensures in
-    let done2 = prints_on done1 (figure c.args.figures.block 32) room2 c.print_figure-2.ensures in
-    prints_on done2 (figure c.args.figures.«record» 10) c.requires c.print_figure-3.ensures
+    let done1 = prints_on done0 (figure c.args.figures.number 32) room1 (subst (λ n. Prints c.print_byte-2.new.self (figure n 32) c.print_figure.new.self) c.from.ensures c.print_figure.ensures) in
+    let done2 = prints_on done1 (figure c.args.figures.block 32) room2 (subst (λ n. Prints c.print_figure.new.self (figure n 32) c.print_figure-2.new.self) c.from-2.ensures c.print_figure-2.ensures) in
+    prints_on done2 (figure c.args.figures.«record» 10) c.requires (subst (λ n. Prints c.print_figure-2.new.self (figure n 10) c.print_figure-3.new.self) c.from-3.ensures c.print_figure-3.ensures)
