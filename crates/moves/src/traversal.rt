@@ -111,15 +111,15 @@ impl<'w> Traversal<'w> {
             self.old.links.now self.old.queue.now (self.old.head - 1) self.old.end self.new.links.now self.new.queue.now) }
     {
         let shape = self.shape;
-        let first = bucket * shape.most;
-        for row in 0..shape.rows {
+        let first = (bucket * shape.most) as usize;
+        let rows = &seats[first..first + shape.rows as usize];
+        for (row, seat) in rows.iter().enumerate() {
             let i = first + row;
-            let seat = seats[i as usize];
             if seat.tally.is_empty() {
-                return Some(i as usize);
+                return Some(i);
             }
             if seat.carry < shape.buckets {
-                self.visit(seat.carry, i);
+                self.visit(seat.carry, i as u32);
             }
         }
         None
