@@ -13,7 +13,8 @@ const UNSEEN: u32 = 4_294_967_295;
 pub(crate) const ROOT: u32 = 4_294_967_294;
 
 // A traversal, in words that the caller lends: the link of each bucket, and the queue of those that were seen, with its
-// head, where the next bucket is, and its end.
+// head, where the next bucket is, and its end. Five contracts say that the shape stays, since a method that is lent a struct by
+// `&mut` may write each of its fields; kept outside the struct, the shape would be a parameter of each, and the lengths too.
 #[derive(Drop)]
 pub(crate) struct Traversal<'w> {
     pub(crate) shape: Shape,
