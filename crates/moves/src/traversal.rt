@@ -13,7 +13,8 @@ const UNSEEN: u32 = 4_294_967_295;
 pub(crate) const ROOT: u32 = 4_294_967_294;
 
 // A traversal, in words that the caller lends: the link of each bucket, and the queue of those that were seen, with its
-// head, where the next bucket is, and its end.
+// head, where the next bucket is, and its end. Five contracts say that the shape stays, since a method that is lent a struct by
+// `&mut` may write each of its fields; kept outside the struct, the shape would be a parameter of each, and the lengths too.
 #[derive(Drop)]
 pub(crate) struct Traversal<'w> {
     pub(crate) shape: Shape,
@@ -111,15 +112,15 @@ impl<'w> Traversal<'w> {
             self.old.links.now self.old.queue.now (self.old.head - 1) self.old.end self.new.links.now self.new.queue.now) }
     {
         let shape = self.shape;
-        let first = bucket * shape.most;
-        for row in 0..shape.rows {
+        let first = (bucket * shape.most) as usize;
+        let rows = &seats[first..first + shape.rows as usize];
+        for (row, seat) in rows.iter().enumerate() {
             let i = first + row;
-            let seat = seats[i as usize];
             if seat.tally.is_empty() {
-                return Some(i as usize);
+                return Some(i);
             }
             if seat.carry < shape.buckets {
-                self.visit(seat.carry, i);
+                self.visit(seat.carry, i as u32);
             }
         }
         None

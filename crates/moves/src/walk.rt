@@ -24,7 +24,8 @@ fn move_entry<T: Tally + Copy>(seats: &mut [Seat<T>], from: usize, bucket: u32, 
 }
 
 // Moves each entry of the chain that leads to the free seat on by one, the last first, and gives the seat at the chain's root
-// that is open then. The entry there has moved on too: the seat is to be written.
+// that is open then. The entry there has moved on too: the seat is to be written. A `while`, since it follows links and goes
+// over no list: an iterator of the links would have to borrow the words, and no less would stand in the loop.
 pub(crate) fn walk_back<T: Tally + Copy>(
     seats: &mut [Seat<T>],
     traversal: &Traversal,

@@ -23,9 +23,10 @@ fn first_seat<T: Tally + Copy, F: Fn(&Seat<T>) -> bool>(
 {
     let first = bucket as usize * shape.most as usize;
     let end = seats.len().min(first + shape.rows as usize);
-    for i in first..end {
-        if test(&seats[i]) {
-            return Some(i);
+    let rows = seats.get(first..end)?;
+    for (row, seat) in rows.iter().enumerate() {
+        if test(seat) {
+            return Some(first + row);
         }
     }
     None

@@ -1,7 +1,6 @@
-use crate::support::stale;
+use crate::support::{refusal_of, stale};
 use rules::fnv::Fnv;
 use rules::plain_number::PlainNumber;
-use seats::refusal::Refusal;
 use seats::seat::Seat;
 use seats::shape::Shape;
 use std::test::Fail;
@@ -9,75 +8,65 @@ use table::table::Table;
 use tallies::replicas::Replicas;
 use tallies::traffic::Traffic;
 
-// The number of the refusal, if the call is refused.
-fn refused<X: Drop>(outcome: Result<X, Refusal>) -> Option<u8> {
-    outcome.err().map(|refusal| refusal.number())
-}
-
-// The shape of these numbers, which every test here takes to be sound.
-pub fn sound_shape(buckets: u32, most: u32, rows: u32, seats: usize) -> Result<Shape, Fail> {
-    Shape::check(buckets, most, rows, seats).map_err(|_| Fail::new("the shape is refused"))
-}
-
 #[test]
 fn keys_of_64_bytes_pass_and_65_do_not(rt: HostRuntime) -> Result<(), Fail> {
     let mut seats = [stale(); 4];
-    let shape = sound_shape(2, 2, 1, seats.len())?;
+    let shape = Shape::check(2, 2, 1, seats.len())?;
     let mut table = Table::open(&mut seats, shape);
     let mut words = [9u32; 4];
     assert_eq!(rt;
-        refused(table.post(&Fnv, &[1; 65], Replicas(1), &mut words)),
+        refusal_of(table.post(&Fnv, &[1; 65], Replicas(1), &mut words)),
         Some(5)
     );
     assert_eq!(rt;
-        refused(table.reverse(&Fnv, &[1; 65], Replicas(1))),
+        refusal_of(table.reverse(&Fnv, &[1; 65], Replicas(1))),
         Some(5)
     );
-    assert_eq!(rt; refused(table.erase(&Fnv, &[1; 65])), Some(5));
-    assert_eq!(rt; refused(table.look_up(&Fnv, &[1; 65])), Some(5));
+    assert_eq!(rt; refusal_of(table.erase(&Fnv, &[1; 65])), Some(5));
+    assert_eq!(rt; refusal_of(table.look_up(&Fnv, &[1; 65])), Some(5));
     assert_eq!(rt;
-        refused(table.post(&Fnv, &[1; 64], Replicas(1), &mut words)),
+        refusal_of(table.post(&Fnv, &[1; 64], Replicas(1), &mut words)),
         None
     );
     assert_eq!(rt; words, [9; 4]);
     assert_eq!(rt;
-        refused(table.reverse(&Fnv, &[1; 64], Replicas(2))),
+        refusal_of(table.reverse(&Fnv, &[1; 64], Replicas(2))),
         Some(10)
     );
-    assert_eq!(rt; refused(table.erase(&Fnv, &[1; 64])), None);
-    assert_eq!(rt; refused(table.erase(&Fnv, &[1; 64])), Some(9));
-    assert_eq!(rt; refused(table.look_up(&Fnv, &[1; 64])), None);
+    assert_eq!(rt; refusal_of(table.erase(&Fnv, &[1; 64])), None);
+    assert_eq!(rt; refusal_of(table.erase(&Fnv, &[1; 64])), Some(9));
+    assert_eq!(rt; refusal_of(table.look_up(&Fnv, &[1; 64])), None);
     Ok(())
 }
 
 #[test]
 fn early_refusals_leave_seats_and_words(rt: HostRuntime) -> Result<(), Fail> {
     let mut seats = [stale(); 4];
-    let shape = sound_shape(2, 2, 1, seats.len())?;
+    let shape = Shape::check(2, 2, 1, seats.len())?;
     let mut few = [9u32; 3];
     let mut words = [9u32; 4];
     {
         let mut table = Table::open(&mut seats, shape);
         assert_eq!(rt;
-            refused(table.post(&PlainNumber, &[1; 65], Replicas(0), &mut few)),
+            refusal_of(table.post(&PlainNumber, &[1; 65], Replicas(0), &mut few)),
             Some(4)
         );
         assert_eq!(rt;
-            refused(table.post(&PlainNumber, &[1; 65], Replicas(0), &mut words)),
+            refusal_of(table.post(&PlainNumber, &[1; 65], Replicas(0), &mut words)),
             Some(5)
         );
         assert_eq!(rt;
-            refused(table.post(&PlainNumber, &[1], Replicas(0), &mut words)),
+            refusal_of(table.post(&PlainNumber, &[1], Replicas(0), &mut words)),
             Some(6)
         );
-        assert_eq!(rt; refused(table.narrow(&mut few)), Some(4));
-        assert_eq!(rt; refused(table.narrow(&mut words)), Some(11));
+        assert_eq!(rt; refusal_of(table.narrow(&mut few)), Some(4));
+        assert_eq!(rt; refusal_of(table.narrow(&mut words)), Some(11));
         assert_eq!(rt;
-            refused(table.reverse(&PlainNumber, &[1], Replicas(0))),
+            refusal_of(table.reverse(&PlainNumber, &[1], Replicas(0))),
             Some(6)
         );
         assert_eq!(rt;
-            refused(table.reverse(&PlainNumber, &[1], Replicas(1))),
+            refusal_of(table.reverse(&PlainNumber, &[1], Replicas(1))),
             Some(9)
         );
     }
@@ -94,14 +83,6 @@ fn early_refusals_leave_seats_and_words(rt: HostRuntime) -> Result<(), Fail> {
 
 #[test]
 fn a_ceiling_refuses_and_leaves_the_tally(rt: HostRuntime) -> Result<(), Fail> {
-    let blank = Seat {
-        carry: 0,
-        flag: false,
-        tally: Traffic {
-            packets: 0,
-            octets: 0,
-        },
-    };
     let most = Traffic {
         packets: 1,
         octets: 1_000_000_000_000_000,
@@ -110,22 +91,22 @@ fn a_ceiling_refuses_and_leaves_the_tally(rt: HostRuntime) -> Result<(), Fail> {
         packets: 0,
         octets: 1,
     };
-    let mut seats = [blank; 2];
-    let shape = sound_shape(2, 1, 1, seats.len())?;
+    let mut seats = [Seat::<Traffic>::empty(); 2];
+    let shape = Shape::check(2, 1, 1, seats.len())?;
     let mut table = Table::open(&mut seats, shape);
     let mut words = [0u32; 4];
     assert_eq!(rt;
-        refused(table.post(&PlainNumber, &[1], most, &mut words)),
+        refusal_of(table.post(&PlainNumber, &[1], most, &mut words)),
         None
     );
     assert_eq!(rt;
-        refused(table.post(&PlainNumber, &[1], one, &mut words)),
+        refusal_of(table.post(&PlainNumber, &[1], one, &mut words)),
         Some(7)
     );
     let Ok(Some(held)) = table.look_up(&PlainNumber, &[1]) else {
         return Err(Fail::new("the tally is gone"));
     };
     assert!(rt; held.packets == 1 && held.octets == 1_000_000_000_000_000);
-    assert_eq!(rt; refused(table.widen()), Some(11));
+    assert_eq!(rt; refusal_of(table.widen()), Some(11));
     Ok(())
 }

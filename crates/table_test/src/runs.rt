@@ -1,9 +1,9 @@
-use crate::refusals::sound_shape;
 use crate::support::stale;
 use book::answer::{Outcome, Rows};
 use replay::replay;
 use rules::plain_number::PlainNumber;
 use seats::refusal::Refusal;
+use seats::shape::Shape;
 use std::test::Fail;
 use table::request::Request;
 use table::table::Table;
@@ -12,7 +12,7 @@ use tallies::replicas::Replicas;
 #[test]
 fn nine_calls_answer_as_worked_by_hand(rt: HostRuntime) -> Result<(), Fail> {
     let mut seats = [stale(); 6];
-    let shape = sound_shape(3, 2, 1, seats.len())?;
+    let shape = Shape::check(3, 2, 1, seats.len())?;
     let mut table = Table::open(&mut seats, shape);
     let requests = [
         Request::Post {

@@ -11,13 +11,6 @@ pub fn stale() -> Seat<Replicas> {
     }
 }
 
-pub fn number_of<X: Drop>(outcome: Result<X, Refusal>) -> u8 {
-    match outcome {
-        Ok(_) => 0,
-        Err(refusal) => refusal.number(),
-    }
-}
-
 // The number of the refusal, if the call was refused.
 pub fn refusal_of<X: Drop>(outcome: Result<X, Refusal>) -> Option<u8> {
     outcome.err().map(Refusal::number)

@@ -1,30 +1,11 @@
-use Rattle.std.proofs.Common.{◌≡◌, ◌<◌, length, Some, None, Err, refl, ◌∙◌, inr, arith, rules}
+use Rattle.std.proofs.Common.{◌≡◌, ◌<◌, length, Some, None, ◌∙◌, arith, rules}
 use Rattle.std.proofs.lemmas.Bool.Decides.{nat_tests}
 use Rattle.std.proofs.lemmas.Bool.{both_ways}
-use Rattle.seats.specs.declared.refusal.Refusal.TheVariants.{NoSeating}
 use Rattle.seats.specs.Shapes.{size}
 use Rattle.seats.proofs.Sitting.{shape_sound}
 use Rattle.moves.specs.Placed.{bar}
-use Rattle.moves.proofs.Placing.{ready_inside, accepted, spared}
+use Rattle.moves.proofs.Placing.{accepted, spared}
 use Rattle.moves.proofs.place.place.Goals as goal
-
-pub enter-requires : goal.enter-requires
-enter-requires g c =
-    let is : c.open_seat.result ≡ Some c.in_ok-hole.hole = search rules in
-    let ready = rw is at c.open_seat.ensures.seat in
-    ready_inside (shape_sound c.args.shape) c.args.fingerprint (omega arith) ready
-
-pub returns-in_err-hole : goal.returns-in_err-hole
-returns-in_err-hole g c =
-    let is : c.open_seat.result ≡ None = search rules in
-    let refused : c.from_residual.result ≡ Err NoSeating = search rules in
-    let let_in : bar g.T.Tally.kind c.args.seats.now (size c.args.shape) c.args.tally (length c.args.words.now) ≡ None = grind (arith, nat_tests) in
-    let below : c.args.fingerprint < (size c.args.shape).range = omega arith in
-    let none = rw is at c.open_seat.ensures.seat in
-    record {
-      placed = rw refused (record { same = none.same; reason = inr (let_in, refl, none.unseatable) });
-      spared = spared g.T.Tally.kind c.args.seats.now (size c.args.shape) c.args.fingerprint c.args.tally c.args.words.now c.open_seat.new.words let_in below c.open_seat.ensures.spared;
-    }
 
 pub returns : goal.returns
 returns g c =

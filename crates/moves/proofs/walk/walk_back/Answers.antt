@@ -21,6 +21,3 @@ pub loop-bucket-smaller : goal.loop-bucket-smaller
 loop-bucket-smaller g c =
     let w = c.loop-bucket.invariant in
     depth_falls (shape_sound c.args.traversal.now.shape) w.tree c.loop-bucket.bucket w.opened.in_table w.seen c.loop-bucket-test.true
-
-pub returns : goal.returns
-returns g c = (c.loop-bucket.bucket, c.loop-bucket-test.false, c.loop-bucket.invariant.opened)

@@ -1,16 +1,11 @@
-use Rattle.std.proofs.Common.{true, get_or, ap, ◌∙◌, subst, arith}
+use Rattle.std.proofs.Common.{get_or, ap, ◌∙◌, subst, arith}
 use Rattle.std.proofs.lemmas.List.{get_or-replicate}
 use Rattle.seats.specs.declared.place.Place.{Place}
 use Rattle.seats.specs.declared.shape.Shape.{Shape}
-use Rattle.seats.proofs.Sitting.{shape_sound, bucket_below}
+use Rattle.seats.proofs.Sitting.{shape_sound}
 use Rattle.moves.specs.Queue.{unseen, root, Visit}
 use Rattle.moves.proofs.Visits.{begun}
 use Rattle.moves.proofs.traversal.Traversal.begin.Goals as goal
-
-pub visit-requires-clause-inside : goal.visit-requires-clause-inside
-visit-requires-clause-inside c =
-    let is = ap (λ (p : Place). p.bucket) c.place.ensures.value in
-    omega (arith, bucket_below (shape_sound c.args.self.now.shape) c.args.fingerprint c.requires true)
 
 pub returns : goal.returns
 returns c =

@@ -1,5 +1,7 @@
-use Rattle.std.proofs.Common.{◌≡◌, ℕ, ◌+◌, ◌-◌, ◌*◌, ◌<◌, List, length, get_or, sym, refl, ap, ◌∙◌, subst, arith}
+use Rattle.std.proofs.Common.{◌≡◌, ℕ, ◌+◌, ◌-◌, ◌*◌, ◌<◌, ◌≤◌, List, length, get_or, sym, refl, ap, ◌∙◌, subst, arith}
 use Rattle.std.proofs.lemmas.List.{get_or_read}
+use Rattle.std.proofs.lemmas.List.Edits.{get_or-between, length-between}
+use Rattle.std.specs.List.{between}
 use Rattle.std.proofs.lemmas.Bool.{both_ways}
 use Rattle.seats.specs.declared.seat.Seat.{Seat}
 use Rattle.seats.specs.declared.shape.Shape.{Shape}
@@ -14,10 +16,20 @@ use Rattle.moves.proofs.Traversals.{bucket_inside, expanding_more, expanding_pas
 use Rattle.moves.proofs.traversal.Traversal.expand.Goals as goal
 use Rattle.moves.proofs.traversal.Traversal.expand.Goals.{then-seat-shape, else-seat-shape}
 
--- the seat at this row of the bucket that left the queue is one of the seats
+-- the rows in use of the bucket that left the queue lie within the seats
 inside : {X : Type 0} {e : X} {seats : List (Seat X)} {z : Size} {links queue : List ℕ} {head tail bucket : ℕ} → Sound z → Reached e seats z links queue head tail →
-    (head < tail) × (bucket ≡ get_or queue head 0) → (row : ℕ) → row < z.rows → bucket * z.most + row < z.buckets * z.most
-inside {bucket} sound r left row low = omega (arith, bucket_inside sound bucket (omega (arith, left.1, r.order.low _ left.0)))
+    (head < tail) × (bucket ≡ get_or queue head 0) → bucket * z.most + z.rows ≤ z.buckets * z.most
+inside {bucket} sound r left = bucket_inside sound bucket (omega (arith, left.1, r.order.low _ left.0))
+
+-- what is read at a row of a part of the seats
+read_row : {X : Type 0} (e : X) (seats : List (Seat X)) (first rows row : ℕ) (x : Seat X) → first + rows ≤ length seats → row < length (between first (first + rows) seats) →
+    x ≡ get_or (between first (first + rows) seats) row x → (row < rows) × (x ≡ at e seats (first + row))
+read_row e seats first rows row x inside low is =
+    let long = length-between seats first (first + rows) inside in
+    (omega (arith, long), get_or_read (between first (first + rows) seats) row x low is (vacant e) ∙ get_or-between seats first (first + rows) row (vacant e) (omega (arith, long)))
+
+pub slice_bounds-rows-end : goal.slice_bounds-rows-end
+slice_bounds-rows-end g c = omega (arith, inside (shape_sound c.args.self.now.shape) c.requires.reached c.requires.left)
 
 pub visit-requires-clause-room : goal.visit-requires-clause-room
 visit-requires-clause-room g c = λ none.
@@ -29,10 +41,10 @@ returns-then-is_empty g c =
     let e = g.T.Tally.kind.empty in
     let xs = c.args.seats.now in
     let x = c.loop-row.invariant.expanding in
-    let i = c.args.bucket * c.args.self.now.shape.most + c.loop-row.row in
-    let low : i < length xs = omega (arith, inside (shape_sound c.args.self.now.shape) c.requires.reached c.requires.left c.loop-row.row c.loop-row-test.true) in
-    let read = get_or_read xs i c.index-seats-i.result low c.index-seats-i.is (vacant e) in
-    let empty = (g.met.T.Tally.lawful.empty_told c.index-seats-i.result.tally).0 (sym c.is_empty.ensures.value ∙ c.if-is_empty.true) in
+    let shape = c.args.self.now.shape in
+    let within = inside (shape_sound shape) c.requires.reached c.requires.left in
+    let (low, read) = read_row e xs (c.args.bucket * shape.most) shape.rows c.loop-row.row c.index-rows-row.result (omega arith) c.loop-row-test.true c.index-rows-row.is in
+    let empty = (g.met.T.Tally.lawful.empty_told c.index-rows-row.result.tally).0 (sym c.is_empty.ensures.value ∙ c.if-is_empty.true) in
     record {
       shape = c.loop-row.invariant.shape;
       head = c.loop-row.invariant.head;
@@ -40,7 +52,7 @@ returns-then-is_empty g c =
         end = c.loop-row.self.end;
         reached = x.reached;
         grown = x.grown;
-        lies = (c.loop-row.row, c.loop-row-test.true, refl);
+        lies = (c.loop-row.row, low, refl);
         empty = ap (λ (s : Seat g.row.T.Denot). s.tally) (sym read) ∙ empty;
       };
     }
@@ -54,11 +66,11 @@ loop-row-preserved g c =
     let sound = shape_sound old.shape in
     let row = c.loop-row.row in
     let i = c.args.bucket * old.shape.most + row in
-    let low : i < length xs = omega (arith, inside sound c.requires.reached c.requires.left row c.loop-row-test.true) in
-    let read : c.index-seats-i.result ≡ at e xs i = get_or_read xs i c.index-seats-i.result low c.index-seats-i.is (vacant e) in
+    let within = inside sound c.requires.reached c.requires.left in
+    let (low, read) = read_row e xs (c.args.bucket * old.shape.most) old.shape.rows row c.index-rows-row.result (omega arith) c.loop-row-test.true c.index-rows-row.is in
     let filled : Filled e xs i = λ empty.
     both_ways c.is_empty.result c.if-is_empty.false
-    (c.is_empty.ensures.value ∙ (g.met.T.Tally.lawful.empty_told c.index-seats-i.result.tally).1 (ap (λ (s : Seat g.row.T.Denot). s.tally) read ∙ empty))
+    (c.is_empty.ensures.value ∙ (g.met.T.Tally.lawful.empty_told c.index-rows-row.result.tally).1 (ap (λ (s : Seat g.row.T.Denot). s.tally) read ∙ empty))
     in
     let carry = ap (λ (s : Seat g.row.T.Denot). s.carry) read in
     let buckets = ap (λ (s : Shape). s.buckets) c.loop-row.invariant.shape in
@@ -73,7 +85,7 @@ loop-row-preserved g c =
             shape = w.visit.ensures.shape ∙ c.loop-row.invariant.shape;
             head = w.visit.ensures.head ∙ c.loop-row.invariant.head;
             expanding =
-                expanding_more sound c.requires.reached c.requires.left.0 c.args.bucket c.requires.left.1 row c.loop-row-test.true c.loop-row.invariant.expanding filled
+                expanding_more sound c.requires.reached c.requires.left.0 c.args.bucket c.requires.left.1 row low c.loop-row.invariant.expanding filled
                 (omega (arith, c.loop-row.self.linked, buckets)) (omega (arith, c.loop-row.self.wide, buckets)) _ carry w.if-seat-shape.true w.visit.ensures.visit;
           })
       | else-seat-shape w ↦
@@ -81,14 +93,19 @@ loop-row-preserved g c =
             shape = c.loop-row.invariant.shape;
             head = c.loop-row.invariant.head;
             expanding =
-                expanding_past sound c.requires.reached c.requires.left.0 c.args.bucket c.requires.left.1 row c.loop-row-test.true c.loop-row.invariant.expanding filled
+                expanding_past sound c.requires.reached c.requires.left.0 c.args.bucket c.requires.left.1 row low c.loop-row.invariant.expanding filled
                 (omega (arith, carry, w.if-seat-shape.false));
           })
     ]
 
 pub returns : goal.returns
-returns g c = record {
-  shape = c.loop-row.invariant.shape;
-  head = c.loop-row.invariant.head;
-  expanded = expanding_all (shape_sound c.args.self.now.shape) c.loop-row-test.false c.loop-row.invariant.expanding;
-}
+returns g c =
+    let old = c.args.self.now.shape in
+    let first = c.args.bucket * old.most in
+    let within = inside (shape_sound old) c.requires.reached c.requires.left in
+    let long = length-between c.args.seats.now first (first + old.rows) (omega arith) in
+    record {
+      shape = c.loop-row.invariant.shape;
+      head = c.loop-row.invariant.head;
+      expanded = expanding_all (shape_sound old) (omega (arith, long, c.loop-row-test.false)) c.loop-row.invariant.expanding;
+    }

@@ -1,4 +1,4 @@
-use Rattle.std.proofs.Common.{◌≡◌, ◌-◌, get_or, sym, ◌∙◌, subst, arith}
+use Rattle.std.proofs.Common.{◌≡◌, ◌-◌, sym, ◌∙◌, subst, arith}
 use Rattle.seats.specs.Shapes.{size}
 use Rattle.seats.proofs.Sitting.{shape_sound}
 use Rattle.moves.specs.Tree.{Reached}
@@ -15,12 +15,6 @@ loop-bucket-init g c =
           subst (λ h. Traversing g.T.Tally.kind.empty c.args.seats.now (size c.args.self.now.shape) c.args.fingerprint begun.links.now begun.queue.now h begun.end) (sym c.begin.ensures.head)
           (traversing_none (shape_sound c.args.self.now.shape) c.begin.ensures.begun);
     }
-
-pub expand-requires-clause-left : goal.expand-requires-clause-left
-expand-requires-clause-left g c =
-    let next = c.in-Some.ensures.next in
-    let place : c.next_bucket.new.self.head - 1 ≡ c.loop-bucket.self.head = omega (arith, next.1) in
-    (omega (arith, next.0, place, c.in-Some.ensures.end), coe 1 0 (i. c.in-Some.bucket ≡ get_or (c.in-Some.ensures.queue i) (place i) 0) next.2)
 
 pub expand-requires-clause-reached : goal.expand-requires-clause-reached
 expand-requires-clause-reached g c =
