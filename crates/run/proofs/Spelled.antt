@@ -3,6 +3,7 @@ use Rattle.std.proofs.Common.{◌≡◌, ℕ, zero, suc, ◌+◌, ◌/◌, ◌%�
 use Rattle.std.specs.List.{flat_map}
 use Rattle.std.proofs.lemmas.Fmt.{AppendsLastDigit, decimal_from_appends, length-decimal-le}
 use Rattle.std.proofs.lemmas.Bool.{and_parts, ltb-true, lt-ltb, le-ltb, cond-true, cond-false}
+use Rattle.blocks.specs.declared.fault.Figures.{Figures}
 use Rattle.run.specs.Lines.{figure, line, fault_line}
 
 -- the decimal digits of a number that has at most so many
@@ -66,7 +67,11 @@ rows_spelled (r ∷ rs) fits =
     let (this, others) = and_parts (small r) (all_small rs) fits in
     λ i. row_spelled r this i ++ rows_spelled rs others i
 
-pub fault_spelled : (number block place : ℕ) → number < 2 ^ 64 → block < 2 ^ 64 → place < 2 ^ 64 →
-    fault_line number block place ≡ (((70 ∷ 32 ∷ []) ++ then_digits number 32) ++ then_digits block 32) ++ then_digits place 10
+-- the figures of a fault
+abbrev pub told : ℕ → ℕ → ℕ → Figures
+told number block place = record { number = number; block = block; «record» = place }
+
+pub fault_spelled : (f : Figures) → f.number < 2 ^ 64 → f.block < 2 ^ 64 → f.«record» < 2 ^ 64 →
+    fault_line f ≡ (((70 ∷ 32 ∷ []) ++ then_digits f.number 32) ++ then_digits f.block 32) ++ then_digits f.«record» 10
 unfolding fault_line
-fault_spelled number block place a b c = λ i. (((70 ∷ 32 ∷ []) ++ then_spelled number 32 a i) ++ then_spelled block 32 b i) ++ then_spelled place 10 c i
+fault_spelled f a b c = λ i. (((70 ∷ 32 ∷ []) ++ then_spelled f.number 32 a i) ++ then_spelled f.block 32 b i) ++ then_spelled f.«record» 10 c i

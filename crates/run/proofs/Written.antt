@@ -1,5 +1,5 @@
 -- How long lines are. Assumes nothing.
-use Rattle.std.proofs.Common.{◌≡◌, ℕ, ◌+◌, ◌≤◌, List, [], ◌∷◌, ◌++◌, length, decimal, ap, ◌∙◌, arith, length-append}
+use Rattle.std.proofs.Common.{◌≡◌, ℕ, ◌+◌, [], ◌∷◌, length, decimal, length-append}
 use Rattle.blocks.specs.declared.fault.Figures.{Figures}
 use Rattle.run.specs.Lines.{figure, line, fault_line}
 

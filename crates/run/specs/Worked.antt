@@ -101,7 +101,8 @@ joining_line =
 pub record WorkedPapersHold : Type 0 where
   -- the codes of the calls
   pub codes : map code_of all_calls ≡ 1 ∷ 2 ∷ 3 ∷ 4 ∷ 5 ∷ 6 ∷ []
-  pub calls : map call_of (1 ∷ 2 ∷ 3 ∷ 4 ∷ 5 ∷ 6 ∷ []) ≡ all_calls
+  pub calls : map call_of (1 ∷ 2 ∷ 3 ∷ 4 ∷ 5 ∷ 6 ∷ []) ≡ map Some all_calls
+  pub no_calls : map call_of (0 ∷ 7 ∷ []) ≡ None ∷ None ∷ []
   -- a paper's length, and the limits of its header
   pub lengths : map count_in (0 ∷ 511 ∷ 512 ∷ 513 ∷ 51200 ∷ 51201 ∷ 51712 ∷ []) ≡ None ∷ None ∷ Some 1 ∷ None ∷ Some 100 ∷ None ∷ None ∷ []
   pub fit : map header_fits fit_headers ≡ replicate 2 true

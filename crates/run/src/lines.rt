@@ -40,9 +40,9 @@ impl Printer<'_> {
     {
         self.print_byte(b'F');
         self.print_byte(b' ');
-        self.print_figure(u64::from(figures.number), b' ');
-        self.print_figure(u64::from(figures.block), b' ');
-        self.print_figure(u64::from(figures.record), b'\n');
+        self.print_figure(figures.number as u64, b' ');
+        self.print_figure(figures.block as u64, b' ');
+        self.print_figure(figures.record as u64, b'\n');
     }
 
     // Prints a number, and a byte behind it.
