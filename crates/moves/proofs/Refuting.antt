@@ -1,6 +1,6 @@
 -- A traversal that is stuck refutes every seating. Assumes nothing.
 use Rattle.std.proofs.Common.{◌≡◌, ℕ, ◌+◌, ◌-◌, ◌*◌, ◌/◌, ◌%◌, ◌<◌, ◌≤◌, Bool, true, false, not, ◌&&◌, eqb, List, get_or, is_some, None, Option, sym, ap, ◌∙◌, subst, arith}
-use Rattle.std.proofs.lemmas.Nat.{div-add-mod', mul-le}
+use Rattle.std.proofs.lemmas.Nat.{mul-le}
 use Rattle.std.proofs.lemmas.Bool.{and_from, eq-eqb, ne_eqb, eqb-false, not-true, not_from_false}
 use Rattle.seatings.specs.Seatings.{bucket, load, Seating, also}
 use Rattle.seatings.proofs.Pigeons.{pigeons_many}
@@ -11,7 +11,7 @@ use Rattle.seats.specs.Shapes.{Size, Sound}
 use Rattle.seats.specs.Places.{place_of, given_back}
 use Rattle.seats.specs.Seats.{at, Sits, Shows, held}
 use Rattle.seats.proofs.Sitting.{carry_below}
-use Rattle.seats.proofs.Shown.{same_bucket}
+use Rattle.seats.proofs.Shown.{place_back, same_bucket}
 use Rattle.seats.proofs.Seated.{seat_of, sits_there}
 use Rattle.moves.specs.Queue.{unseen, Seen}
 use Rattle.moves.specs.Tree.{other}
@@ -26,10 +26,6 @@ to_seen links j is = eqb-false (get_or links j 0) unseen (not-true (eqb (get_or 
 
 from_seen : (links : List ℕ) (j : ℕ) → Seen links j → seen_by links j ≡ true
 from_seen links j s = not_from_false (eqb (get_or links j 0) unseen) (ne_eqb (get_or links j 0) unseen s)
-
-place_back : (m f : ℕ) (flag : Bool) → given_back m (place_of m f flag) ≡ f
-place_back m f true = div-add-mod' f m
-place_back m f false = div-add-mod' f m
 
 -- what holds of the bucket and of the carry of a place holds of quotient and remainder
 both_buckets : (P : ℕ → Type 0) (m f : ℕ) (flag : Bool) → P (place_of m f flag).bucket → P (place_of m f flag).carry → P (f / m) × P (f % m)

@@ -1,5 +1,5 @@
 -- One entry of the last row in use, seated in the rows below it. Assumes nothing.
-use Rattle.std.proofs.Common.{◌≡◌, ℕ, ◌+◌, ◌-◌, ◌*◌, ◌%◌, ◌<◌, ◌≤◌, Bool, true, false, cond, not, ◌||◌, eqb, ltb, ◌⊎◌, List, length, get_or, set, is_some as option_is_some, Some, None, Option, Ok, Err, sym, refl, ap, ◌∙◌, subst, inl, inr, ⊎_elim, arith}
+use Rattle.std.proofs.Common.{◌≡◌, ℕ, ◌+◌, ◌-◌, ◌*◌, ◌%◌, ◌<◌, ◌≤◌, Bool, true, false, cond, not, ◌||◌, eqb, ltb, ◌⊎◌, List, length, get_or, set, is_some, Some, None, Option, Ok, Err, sym, refl, ap, ◌∙◌, subst, inl, inr, ⊎_elim, arith}
 use Rattle.std.proofs.lemmas.Nat.{mod-mul-add, mul-add-lt}
 use Rattle.std.proofs.lemmas.List.{get_or_read, get_or-set_same, get_or-set_other}
 use Rattle.std.proofs.lemmas.Bool.{both_ways, cond-true, cond-false, cases_Bool, cases_eq, cases_lt, eqb-true, eqb-false, eq-eqb, lt-ltb, le-ltb, ltb-true, ltb-false}
@@ -18,9 +18,6 @@ use Rattle.seats.proofs.Seated.{seat_of, sits_there}
 use Rattle.moves.specs.Opening.{Unseatable}
 use Rattle.moves.specs.Placed.{Accepted, Refused, bar}
 use Rattle.narrowing.specs.Narrowed.{narrower, last_seat, Shifted, Lowered}
-
-is_some : {X : Type 0} (o : Option X) (x : X) → o ≡ Some x → option_is_some o ≡ true
-is_some o x is = ap option_is_some is
 
 module _ {X : Type 0} (e : X) {z : Size} (sound : Sound z) (more : 1 < z.rows) where
   -- the rows below are rows in use
@@ -70,7 +67,7 @@ module _ {X : Type 0} (e : X) {z : Size} (sound : Sound z) (more : 1 < z.rows) w
         ⊎_elim
         (λ (yes : is_low g ≡ true).
         let entry : entries g ≡ Some t = sym (cond-true (is_low g) (entries g) None yes) ∙ is in
-        let s = sits_there e sound xs entries shows g (is_some (entries g) t entry) in
+        let s = sits_there e sound xs entries shows g (ap is_some entry) in
         let row = row_is xs g (seat_of e sound xs entries shows g) s in
         (entry, lowered xs g (seat_of e sound xs entries shows g) s (omega (arith, ltb-true (seat_of e sound xs entries shows g % z.most) (z.rows - 1) yes))))
         (λ (no : is_low g ≡ false). absurd (cc (is, cond-false (is_low g) (entries g) None no)))
@@ -80,7 +77,7 @@ module _ {X : Type 0} (e : X) {z : Size} (sound : Sound z) (more : 1 < z.rows) w
     low_from g i s =
         let s' = raised xs g i s in
         let entry = shows.told g i s' in
-        let there = sits_there e sound xs entries shows g (is_some (entries g) (at e xs i).tally entry) in
+        let there = sits_there e sound xs entries shows g (ap is_some entry) in
         let same : seat_of e sound xs entries shows g ≡ i = shows.alone g (seat_of e sound xs entries shows g) i there s' in
         let row = row_is xs g i s' in
         let yes : is_low g ≡ true = lt-ltb (seat_of e sound xs entries shows g % z.most) (z.rows - 1) (omega (arith, ap (λ n. n % z.most) same, s.in_rows)) in
@@ -126,11 +123,11 @@ module _ {X : Type 0} (e : X) {z : Size} (sound : Sound z) (more : 1 < z.rows) w
     pub held_more : (g : ℕ) → also f (held below) g ≡ true → held entries g ≡ true
     held_more g is =
         ⊎_elim
-        (λ (same : eqb g f ≡ true). is_some (entries g) _ (ap entries (eqb-true g f same) ∙ shows.told f i sits))
+        (λ (same : eqb g f ≡ true). ap is_some (ap entries (eqb-true g f same) ∙ shows.told f i sits))
         (λ (apart : eqb g f ≡ false). some_below (is_low xs entries shows g) (entries g) (ap (λ x. x || held below g) (sym apart) ∙ is))
         (cases_Bool (eqb g f))
       where
-        some_below : (x : Bool) (o : Option X) → option_is_some (cond x o None) ≡ true → option_is_some o ≡ true
+        some_below : (x : Bool) (o : Option X) → is_some (cond x o None) ≡ true → is_some o ≡ true
         some_below true o h = h
         some_below false o h = absurd (grind arith)
 
@@ -224,7 +221,7 @@ module _ {X : Type 0} (e : X) {z : Size} (sound : Sound z) (more : 1 < z.rows) w
           (j, back_low g j s))
           (λ (no : is_low xs entries shows g ≡ false).
           let j = seat_of e sound xs entries shows g in
-          let s = sits_there e sound xs entries shows g (is_some (entries g) t is) in
+          let s = sits_there e sound xs entries shows g (ap is_some is) in
           let last : s.row ≡ z.rows - 1 = omega (arith, row_is xs g j s, s.in_rows, ltb-false (j % z.most) (z.rows - 1) no) in
           let apart : j ≡ i → ⊥ = λ at_i. eqb-false g f other (sits_one e sound xs g f i (subst (λ n. Sits e xs z g n) at_i s) sits) in
           (j, back_last g j s.bucket s.in_table (s.lies ∙ ap (λ n. s.bucket * z.most + n) last) apart s))
