@@ -98,7 +98,8 @@ impl<'w> Traversal<'w> {
     }
 
     // Goes through the rows in use of the bucket that has just left the queue, once: the first empty seat ends the traversal,
-    // and the other bucket of each entry is visited. Memory that shows no entries may carry what is no bucket: that is passed over.
+    // and the other bucket of each entry is visited. Memory that shows no entries may carry what is no bucket: that is passed
+    // over.
     fn expand<T: Tally + Copy>(&mut self, seats: &[Seat<T>], bucket: u32) -> Option<usize>
         requires sizes { length seats.now ≡ self.old.shape.buckets * self.old.shape.most }
         requires left { (self.old.head - 1 < self.old.end) × (bucket ≡ slice_index self.old.queue.now (self.old.head - 1)) }

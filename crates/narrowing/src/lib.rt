@@ -78,6 +78,7 @@ pub fn clear_last_row<T: Tally + Copy>(
         most: shape.most,
         rows: shape.rows - 1,
     };
+    // by number, since each step is lent all seats
     for bucket in 0..shape.buckets {
         lower_entry(seats, shape, lower, bucket, words)?;
     }

@@ -6,7 +6,8 @@ use rules::rule::Rule;
 use tallies::tally::Tally;
 
 // What a paper says of its table: buckets, rows in use at the start, most rows, and the numbers of its rule and its kind.
-// It may break the limits of a header, and name no rule or kind: so these are numbers, matched against those that the rules and kinds give.
+// It may break the limits of a header, and name no rule or kind: so these are numbers, matched against those that the rules
+// and kinds give.
 #[derive(Clone, Copy, PartialEq, Eq, Debug)]
 pub struct Header {
     pub buckets: u16,

@@ -17,7 +17,8 @@ use table::table::Table;
 // How many work words are lent: two for each bucket of the widest table.
 pub(crate) const WORDS: usize = 512;
 
-// What a record asks of the table.
+// What a record asks of the table. The calls are a closed set, and each takes arguments of its own: an enum says so, and a
+// closure for each would not.
 fn request_of<'k, T: Figured>(record: &'k Record) -> Request<'k, T>
     ensures { asked lent result ≡ call_for T.Figured.made «record».now }
 {

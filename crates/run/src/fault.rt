@@ -15,7 +15,8 @@ pub enum RunFault {
 }
 
 impl RunFault {
-    // The figures by which the fault is told.
+    // The figures by which the fault is told. Each layer's fault has a first case of its own, so each has a match of its own: a
+    // trait over them would hold the same.
     pub fn figures(self) -> Figures
         ensures { result ≡ figures_of self }
     {

@@ -48,6 +48,7 @@ fn write_on<T: Figured + Copy>(
 {
     let shape = shape_of(paper.header);
     let seats = &mut seats[..shape.seats()];
+    // The rule is a type parameter of all that follows, so the header's number chooses one call of two.
     if paper.header.rule == <PlainNumber as Rule>::rule_number() {
         write_lines(seats, shape, &PlainNumber, paper, out)
     } else {
@@ -59,6 +60,7 @@ fn write_on<T: Figured + Copy>(
 pub(crate) fn write_by_kind(paper: &SoundPaper<'_>, out: &mut [u8; MOST_PRINTED]) -> usize
     ensures { Wrote out.old (all_lines paper.now.header (paper_records paper.now.bytes.now)) result out.new }
 {
+    // So is the kind.
     if paper.header.kind == <Replicas as Tally>::kind_number() {
         write_on(&mut [Seat::<Replicas>::empty(); SEATS], paper, out)
     } else {

@@ -20,6 +20,7 @@ impl<T: Tally + Copy> Table<'_, T> {
         ensures did { Did T.Tally.kind (R.Rule.meaning rule.now) self.old (asked (length words.old) request.now) result self.new }
         ensures words { WordsAfter request.now result words.old words.new }
     {
+        // an enum and no closures: the calls are a closed set, and each takes arguments of its own
         match request {
             Request::Post {
                 key,
