@@ -40,7 +40,8 @@ fn request_of<'k, T: Figured>(record: &'k Record) -> Request<'k, T>
     }
 }
 
-// What the table holds for the record's key, or, where the call takes no key, its rows in use and how many it holds.
+// What the table holds for the record's key, or, where the call takes no key, its rows in use and how many it holds. Nothing
+// held is two zeros, since these are the figures of a line.
 fn figures_after<T: Figured + Copy, R: Rule>(
     table: &Table<'_, T>,
     rule: &R,
