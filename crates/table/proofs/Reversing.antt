@@ -80,9 +80,6 @@ module _ {V : Type 0} (k : Kind V) {rule : Meaning} {t : Table V} {key : List �
     pub reversed_none : Reads k t f None → Did k rule t (reverse key amount) (Err NotHeld) t
     reversed_none reads = unmoved k rule t (reverse key amount) (Err NotHeld) (λ b keeps. reversal b None reads keeps)
 
-    pub reversed_short : (v : V) → Reads k t f (Some v) → k.take_back v amount ≡ None → Did k rule t (reverse key amount) (Err NotTakenBack) t
-    reversed_short v reads lacks = unmoved k rule t (reverse key amount) (Err NotTakenBack) (λ b keeps. reversal b (Some v) reads keeps ∙ ap (taken_back k b f) lacks)
-
     -- what is taken back leaves w
     module _ (u : Table V) (i : ℕ) (v w : V) (sits : SitsIn k t f i) (got : v ≡ (at k.empty t.seats.now i).tally) (back : k.take_back v amount ≡ Some w) where
       reads : Reads k t f (Some v)
