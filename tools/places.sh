@@ -13,7 +13,7 @@ case "${1:-}" in
 4) list 'fn (number|number_of|code|of|figures|figures_of|is_same|of_[a-z]+|write_[a-z]+|eq|cmp|clone|fmt)\b|\bas u(8|16|32)\b' ;;
 5) grep -rhoE '^ *requires( [a-z_]+)? .*' crates/*/src | sed -E 's/^ *requires( [a-z_]+)? //' | sort | uniq -c | sort -rn ;;
 6) list '(at|tail|head|place): usize|(links|queue|words|seats|answers|numbers|out): &|const [A-Z_]+: \[|let mut [a-z]+ = \[' ;;
-7) list 'match (request|record\.call|piece\[0\])|if header\.|dyn |fn\(|Box<' ;;
+7) list 'match (request|record\.call|piece\[0\])|if (paper\.)?header\.|dyn |fn\(|Box<' ;;
 8) grep -rcE '^(pub )?[a-z][^ ]* .*:|^pub ' crates/*/proofs --include=Answers.antt | awk -F: '{n += $2} END {print NR " files, " n " answers and lemmas in them"}'
    find crates/*/proofs -name '*.antt' | xargs cat | wc -l ;;
 *) echo "usage: tools/places.sh POINT" >&2; exit 2 ;;

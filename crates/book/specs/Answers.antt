@@ -14,6 +14,6 @@ told_as outcome (Ok x) = Ok (outcome x)
 told_as outcome (Err why) = Err why
 
 -- the number of the refusal, or 0
-abbrev pub answer_number : {V : Type 0} → Answer V → ℕ
-answer_number (Ok outcome) = 0
+abbrev pub answer_number : {X : Type 0} → Result X Refusal → ℕ
+answer_number (Ok x) = 0
 answer_number (Err why) = refusal_number why

@@ -25,7 +25,7 @@ pub enum Outcome<T> {
 pub type Answer<T> = Result<Outcome<T>, Refusal>;
 
 // The number of the refusal, or 0. That 0 is the figure which a call's line has where it is not turned away.
-pub fn number_of<T>(answer: &Answer<T>) -> u8
+pub fn number_of<X>(answer: &Result<X, Refusal>) -> u8
     ensures { result ≡ answer_number answer.now }
 {
     match answer {

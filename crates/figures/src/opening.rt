@@ -1,8 +1,8 @@
 // Which tables open, and which keys they take.
 use crate::tell::tell_number;
 use anyhow::anyhow;
+use book::answer::number_of;
 use rules::plain_number::PlainNumber;
-use seats::refusal::Refusal;
 use seats::seat::Seat;
 use seats::shape::Shape;
 use table::table::Table;
@@ -19,27 +19,18 @@ const OPENINGS: [(&str, [u32; 3], usize, u64); 7] = [
     ("opening on a seat too few", [2, 1, 1], 1, 3),
 ];
 
-// The figure that is printed of an outcome: the number of the refusal, or 0.
-fn number_of<X: Drop>(outcome: Result<X, Refusal>) -> u64 {
-    outcome
-        .err()
-        .map_or(0, |refusal| u64::from(refusal.number()))
-}
-
 // The number that a look-up of this key is refused with, or 0.
 fn key_number(key: &[u8]) -> anyhow::Result<u64> {
     let mut seats = [Seat::<Replicas>::empty(); 2];
-    let Ok(shape) = Shape::check(2, 1, 1, seats.len()) else {
-        return Err(anyhow!("the table does not open"));
-    };
+    let shape = Shape::check(2, 1, 1, seats.len()).map_err(|_| anyhow!("the table does not open"))?;
     let table = Table::open(&mut seats, shape);
-    Ok(number_of(table.look_up(&PlainNumber, key)))
+    Ok(u64::from(number_of(&table.look_up(&PlainNumber, key))))
 }
 
 pub fn tell_all(rt: &HostRuntime) -> anyhow::Result<()> {
     for (what, [buckets, most, rows], seats, expected) in OPENINGS {
         let opened = Shape::check(buckets, most, rows, seats);
-        tell_number(rt, what, expected, number_of(opened))?;
+        tell_number(rt, what, expected, u64::from(number_of(&opened)))?;
     }
     tell_number(rt, "a key of 64 bytes", 0, key_number(&[1; 64])?)?;
     tell_number(rt, "a key of 65 bytes", 5, key_number(&[1; 65])?)

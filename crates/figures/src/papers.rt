@@ -19,7 +19,7 @@ const DAMAGES: [(&str, usize, u8, &str); 6] = [
 ];
 
 // The large papers, by their header: how many bytes are printed, and their FNV-1a number.
-const LARGES: [(&str, Header, u64, u64); 4] = [
+const LARGE_PAPERS: [(&str, Header, u64, u64); 4] = [
     (
         "1900 calls by plain numbers with replicas",
         LARGE,
@@ -53,22 +53,18 @@ const LARGES: [(&str, Header, u64, u64); 4] = [
 // What is printed of a paper.
 fn printed(rt: &HostRuntime, paper: &[u8]) -> anyhow::Result<Vec<u8>> {
     let mut out = vec![in rt.alloc(); 0; MOST_PRINTED]?;
-    match print_paper(paper, out.as_mut_slice()) {
-        Ok(many) => {
-            out.truncate(many);
-            Ok(out)
-        }
-        Err(_) => Err(anyhow!("there is no room to print")),
-    }
+    let many = print_paper(paper, out.as_mut_slice())
+        .map_err(|_| anyhow!("there is no room to print"))?;
+    out.truncate(many);
+    Ok(out)
 }
 
 // The sample's bytes.
 fn nine_paper() -> anyhow::Result<[u8; 512]> {
     let mut paper = [0; 512];
-    match write_paper(NINE, &nine_calls(), &mut paper) {
-        Ok(()) => Ok(paper),
-        Err(_) => Err(anyhow!("the sample is not written")),
-    }
+    write_paper(NINE, &nine_calls(), &mut paper)
+        .map_err(|_| anyhow!("the sample is not written"))?;
+    Ok(paper)
 }
 
 // The sample with one byte changed, and its check made right again.
@@ -121,7 +117,7 @@ pub fn tell_all(rt: &HostRuntime) -> anyhow::Result<()> {
         b"1 0 1 0\n2 0 2 0\n3 8 0 0\n4 0 2 2\n5 0 1 0\n6 12 2 3\n7 0 0 0\n8 0 1 2\n9 0 1 0\n";
     tell_lines(rt, "nine calls", expected, came.as_slice())?;
     tell_faults(rt)?;
-    for (what, header, long, check) in LARGES {
+    for (what, header, long, check) in LARGE_PAPERS {
         tell_large(rt, what, header, long, check)?;
     }
     Ok(())

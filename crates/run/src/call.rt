@@ -14,7 +14,7 @@ use rules::rule::Rule;
 use table::request::Request;
 use table::table::Table;
 
-// How many work words are lent: two for each bucket of the widest table.
+// How many work words are lent: two for each bucket of the table with the most buckets.
 pub(crate) const WORDS: usize = 512;
 
 // What a record asks of the table. The calls are a closed set, and each takes arguments of its own: an enum says so, and a

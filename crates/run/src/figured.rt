@@ -13,7 +13,7 @@ pub trait Figured: Tally {
 
     ghost made: { ℕ → ℕ → Self };
 
-    // What is printed of the tally.
+    // What is printed of the tally: a pair, since a line has the two one after the other.
     fn figures(&self) -> (u32, u64)
         ensures value { result ≡ shown self.now };
 

@@ -1,8 +1,6 @@
 // The table that a paper's header asks for: its shape, its rule, and its kind with the seats.
-ghost use Rattle.std.specs.Prelude.{◌≡◌, ◌*◌, ◌≤◌, true, length};
-ghost use Rattle.seats.specs.Shapes.{size};
+ghost use Rattle.std.specs.Prelude.{◌≡◌, length};
 ghost use Rattle.book.specs.Books.{blank};
-ghost use Rattle.paper.specs.Headers.{header_fits};
 ghost use Rattle.paper.specs.Reading.{paper_records};
 ghost use Rattle.run.specs.Printed.{lines, all_lines, rule_of, size_of};
 ghost use Rattle.run.specs.Runs.{Wrote};
@@ -11,12 +9,10 @@ use crate::calls::write_lines;
 use crate::figured::Figured;
 use crate::print::MOST_PRINTED;
 use crate::sound::SoundPaper;
-use paper::header::Header;
 use rules::fnv::Fnv;
 use rules::plain_number::PlainNumber;
 use rules::rule::Rule;
 use seats::seat::Seat;
-use seats::shape::Shape;
 use tallies::replicas::Replicas;
 use tallies::tally::Tally;
 use tallies::traffic::Traffic;
@@ -24,20 +20,8 @@ use tallies::traffic::Traffic;
 // The seats of the largest table that a header may ask for. They lie in an array, since a run takes no memory from the heap.
 const SEATS: usize = 2048;
 
-// The shape that a fit header asks for. It has seats enough.
-fn shape_of(header: Header) -> Shape
-    requires { header_fits header ≡ true }
-    ensures size { size result ≡ size_of header }
-    ensures few { result.buckets * result.most ≤ 2048 }
-{
-    Shape {
-        buckets: u32::from(header.buckets),
-        most: u32::from(header.most),
-        rows: u32::from(header.rows),
-    }
-}
-
-// The lines of a sound paper by its header's rule, on these seats.
+// The lines of a sound paper by its header's rule, on these seats. They are a slice: of an array of a generic kind's seats no
+// part is lent, since nothing bounds how large they are.
 fn write_on<T: Figured + Copy>(
     seats: &mut [Seat<T>],
     paper: &SoundPaper<'_>,
@@ -46,7 +30,7 @@ fn write_on<T: Figured + Copy>(
     requires { length seats.old ≡ 2048 }
     ensures { Wrote out.old (lines T.Tally.kind (rule_of paper.now.header) T.Figured.shown T.Figured.made (blank (size_of paper.now.header)) 1 (paper_records paper.now.bytes.now)) result out.new }
 {
-    let shape = shape_of(paper.header);
+    let shape = paper.shape();
     let seats = &mut seats[..shape.seats()];
     // The rule is a type parameter of all that follows, so the header's number chooses one call of two.
     if paper.header.rule == <PlainNumber as Rule>::rule_number() {
@@ -57,10 +41,11 @@ fn write_on<T: Figured + Copy>(
 }
 
 // The lines of a sound paper in its header's kind, on seats of its own.
+#[tactic(auto, unfolding(crate::specs::Printed::all_lines))]
 pub(crate) fn write_by_kind(paper: &SoundPaper<'_>, out: &mut [u8; MOST_PRINTED]) -> usize
     ensures { Wrote out.old (all_lines paper.now.header (paper_records paper.now.bytes.now)) result out.new }
 {
-    // So is the kind.
+    // The kind is a type parameter of all that follows, too.
     if paper.header.kind == <Replicas as Tally>::kind_number() {
         write_on(&mut [Seat::<Replicas>::empty(); SEATS], paper, out)
     } else {
