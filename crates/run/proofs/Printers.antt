@@ -35,3 +35,15 @@ prints_none p start = record { next = omega arith; after = ap (λ k. put p.out.n
 -- what is printed from a buffer's start on is written there
 pub wrote_all : {p q : Printer} {bytes : List ℕ} → Prints p bytes q → p.at ≡ 0 → length bytes ≤ length p.out.now → Wrote p.out.now bytes q.at q.out.now
 wrote_all {p} {q} {bytes} done start roomy = record { room = roomy; next = omega (arith, done.next); after = done.after ∙ ap (λ k. put p.out.now k bytes) start }
+
+-- where there is room for four pieces, there is for those before
+pub record Rooms (p : Printer) (a b c : List ℕ) : Type 0 where
+  pub one : Fits p a
+  pub two : Fits p (a ++ b)
+  pub three : Fits p ((a ++ b) ++ c)
+
+pub rooms : (p : Printer) (a b c d : List ℕ) → Fits p (((a ++ b) ++ c) ++ d) → Rooms p a b c
+rooms p a b c d room =
+    let three = fits_front p ((a ++ b) ++ c) d room in
+    let two = fits_front p (a ++ b) c three in
+    record { one = fits_front p a b two; two = two; three = three }

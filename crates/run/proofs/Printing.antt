@@ -15,7 +15,7 @@ use Rattle.run.specs.Lines.{fault_line}
 use Rattle.run.specs.declared.fault.RunFault.{RunFault}
 use Rattle.run.specs.declared.fault.RunFault.TheVariants.{Room, InPaper}
 use Rattle.run.specs.Printed.{all_lines, printed, printed_as}
-use Rattle.run.specs.Runs.{Ran, Wrote, left, ran}
+use Rattle.run.specs.Runs.{Ran, Wrote, buffer_after, answer_to}
 use Rattle.run.proofs.Written.{figure_long, fault_long}
 
 pub fault_short : (f : Figures) → f.number < 1000 → f.block < 1000 → f.«record» < 1000 → length (fault_line f) ≤ 14
@@ -59,9 +59,9 @@ pub ran_unsound : (out front : List ℕ) (checked : Result Header PaperFault) (r
 ran_unsound out front checked records fault outcome roomy is so answer =
     let enough : ltb (length out) 68400 ≡ false = le-ltb (length out) 68400 roomy in
     record {
-      answer = answer ∙ ap (λ r. ran r records) (sym so) ∙ sym (ap (λ s. cond s (Err Room) (ran checked records)) enough);
+      answer = answer ∙ ap (λ r. answer_to r records) (sym so) ∙ sym (ap (λ s. cond s (Err Room) (answer_to checked records)) enough);
       after =
-          ap (λ x. x ++ drop 68400 out) is ∙ take-append-drop 68400 out ∙ ap (λ r. left out r records) (sym so) ∙ sym (ap (λ s. cond s out (left out checked records)) enough);
+          ap (λ x. x ++ drop 68400 out) is ∙ take-append-drop 68400 out ∙ ap (λ r. buffer_after out r records) (sym so) ∙ sym (ap (λ s. cond s out (buffer_after out checked records)) enough);
     }
 
 pub ran_sound : (out front mid : List ℕ) (checked : Result Header PaperFault) (records : List Record) (h : Header) (n : ℕ) → 68400 ≤ length out → front ≡ take 68400 out → checked ≡ Ok h →
@@ -70,11 +70,11 @@ ran_sound out front mid checked records h n roomy is so wrote =
     let enough : ltb (length out) 68400 ≡ false = le-ltb (length out) 68400 roomy in
     let whole = wrote_whole 68400 out front mid (all_lines h records) n roomy is wrote in
     record {
-      answer = ap Ok whole.next ∙ ap (λ r. ran r records) (sym so) ∙ sym (ap (λ s. cond s (Err Room) (ran checked records)) enough);
-      after = whole.after ∙ ap (λ r. left out r records) (sym so) ∙ sym (ap (λ s. cond s out (left out checked records)) enough);
+      answer = ap Ok whole.next ∙ ap (λ r. answer_to r records) (sym so) ∙ sym (ap (λ s. cond s (Err Room) (answer_to checked records)) enough);
+      after = whole.after ∙ ap (λ r. buffer_after out r records) (sym so) ∙ sym (ap (λ s. cond s out (buffer_after out checked records)) enough);
     }
 
--- what is answered, and left
+-- what is answered, and what is left
 pub record Answered (short : Bool) (out end all : List ℕ) (outcome : Result ℕ RunFault) : Type 0 where
   pub answer : outcome ≡ cond short (Err Room) (Ok (length all))
   pub after : end ≡ cond short out (put out 0 all)
@@ -85,7 +85,7 @@ module _ (paper out mid : List ℕ) where
   unfolding printed
   sound_answered n told = by_check (ltb (length out) 68400) (paper_checked paper) told.answer told.after
     where
-      by_check : (short : Bool) (checked : Result Header PaperFault) → Ok n ≡ cond short (Err Room) (ran checked (paper_records paper)) → mid ≡ cond short out (left out checked (paper_records paper)) →
+      by_check : (short : Bool) (checked : Result Header PaperFault) → Ok n ≡ cond short (Err Room) (answer_to checked (paper_records paper)) → mid ≡ cond short out (buffer_after out checked (paper_records paper)) →
           Answered short out mid (printed_as checked (paper_records paper)) (Ok n)
       by_check true checked answer after = cc
       by_check false (Ok h) answer after = record { answer = answer; after = after }
@@ -94,7 +94,7 @@ module _ (paper out mid : List ℕ) where
   pub room_answered : (why : RunFault) → why ≡ Room → Ran out (paper_checked paper) (paper_records paper) (Err why) mid → Answered (ltb (length out) 68400) out mid (printed paper) (Err Room)
   room_answered why is told = by_check (ltb (length out) 68400) (paper_checked paper) told.answer told.after
     where
-      by_check : (short : Bool) (checked : Result Header PaperFault) → Err why ≡ cond short (Err Room) (ran checked (paper_records paper)) → mid ≡ cond short out (left out checked (paper_records paper)) →
+      by_check : (short : Bool) (checked : Result Header PaperFault) → Err why ≡ cond short (Err Room) (answer_to checked (paper_records paper)) → mid ≡ cond short out (buffer_after out checked (paper_records paper)) →
           Answered short out mid (printed paper) (Err Room)
       by_check true checked answer after = record { answer = refl; after = after }
       by_check false (Ok h) answer after = cc
@@ -105,7 +105,7 @@ module _ (paper out mid : List ℕ) where
     pub fault_leaves : Ran out (paper_checked paper) (paper_records paper) (Err why) mid → (68400 ≤ length out) × (mid ≡ out)
     fault_leaves told = let (roomy, same) = by_check (ltb (length out) 68400) (paper_checked paper) told.answer told.after in (ltb-false (length out) 68400 roomy, same)
       where
-        by_check : (short : Bool) (checked : Result Header PaperFault) → Err why ≡ cond short (Err Room) (ran checked (paper_records paper)) → mid ≡ cond short out (left out checked (paper_records paper)) →
+        by_check : (short : Bool) (checked : Result Header PaperFault) → Err why ≡ cond short (Err Room) (answer_to checked (paper_records paper)) → mid ≡ cond short out (buffer_after out checked (paper_records paper)) →
             (short ≡ false) × (mid ≡ out)
         by_check true checked answer after = cc
         by_check false (Ok h) answer after = cc
@@ -116,7 +116,7 @@ module _ (paper out mid : List ℕ) where
     unfolding printed
     fault_answered end n told wrote = by_check (ltb (length out) 68400) (paper_checked paper) told.answer told.after
       where
-        by_check : (short : Bool) (checked : Result Header PaperFault) → Err why ≡ cond short (Err Room) (ran checked (paper_records paper)) → mid ≡ cond short out (left out checked (paper_records paper)) →
+        by_check : (short : Bool) (checked : Result Header PaperFault) → Err why ≡ cond short (Err Room) (answer_to checked (paper_records paper)) → mid ≡ cond short out (buffer_after out checked (paper_records paper)) →
             Answered short out end (printed_as checked (paper_records paper)) (Ok n)
         by_check true checked answer after = cc
         by_check false (Ok h) answer after = cc

@@ -15,15 +15,15 @@ pub record Wrote (before bytes : List ℕ) (n : ℕ) (end : List ℕ) : Type 0 w
   pub after : end ≡ put before 0 bytes
 
 -- by what the check of the paper answers: its lines are written, or nothing is
-abbrev pub ran : Result Header PaperFault → List Record → Result ℕ RunFault
-ran (Ok h) records = Ok (length (all_lines h records))
-ran (Err fault) records = Err (InPaper fault)
+abbrev pub answer_to : Result Header PaperFault → List Record → Result ℕ RunFault
+answer_to (Ok h) records = Ok (length (all_lines h records))
+answer_to (Err fault) records = Err (InPaper fault)
 
-abbrev pub left : List ℕ → Result Header PaperFault → List Record → List ℕ
-left before (Ok h) records = put before 0 (all_lines h records)
-left before (Err fault) records = before
+abbrev pub buffer_after : List ℕ → Result Header PaperFault → List Record → List ℕ
+buffer_after before (Ok h) records = put before 0 (all_lines h records)
+buffer_after before (Err fault) records = before
 
 -- the same where there is room for the most, and else nothing is written
 pub record Ran (before : List ℕ) (checked : Result Header PaperFault) (records : List Record) (outcome : Result ℕ RunFault) (end : List ℕ) : Type 0 where
-  pub answer : outcome ≡ cond (nat_lt (length before) 68400) (Err Room) (ran checked records)
-  pub after : end ≡ cond (nat_lt (length before) 68400) before (left before checked records)
+  pub answer : outcome ≡ cond (nat_lt (length before) 68400) (Err Room) (answer_to checked records)
+  pub after : end ≡ cond (nat_lt (length before) 68400) before (buffer_after before checked records)
