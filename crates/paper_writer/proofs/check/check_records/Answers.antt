@@ -17,12 +17,12 @@ returns-then-not-fits c =
 pub loop-k-preserved : goal.loop-k-preserved
 loop-k-preserved c = (
   sym (records_step _ _ _ _ _ c.loop-k-test.true (sym c.if-not-fits.ensures.value)) ∙ c.loop-k.invariant.0,
-  All-more Held c.args.records.now c.loop-k.k _ c.loop-k-test.true c.loop-k.invariant.1 c.if-not-fits.ensures.held,
+  All-more Held c.args.records.now.all.now c.loop-k.k _ c.loop-k-test.true c.loop-k.invariant.1 c.if-not-fits.ensures.held,
 )
 
 pub returns : goal.returns
 returns c =
     record {
       answer = sym (records_none _ _ _ c.loop-k-test.false) ∙ c.loop-k.invariant.0;
-      held = λ _. subst (AllByRecursion Held) (take_all c.loop-k.k c.args.records.now c.loop-k-test.false) c.loop-k.invariant.1;
+      held = λ _. subst (AllByRecursion Held) (take_all c.loop-k.k c.args.records.now.all.now c.loop-k-test.false) c.loop-k.invariant.1;
     }
