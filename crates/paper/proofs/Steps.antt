@@ -62,7 +62,7 @@ blocks_none first bs i past = at_drop_all (blocks_checked first i) bs i past
 
 counted : (b : Bool) (m n : ℕ) → Some n ≡ cond b (Some m) None → (b ≡ true) × (m ≡ n)
 counted true m n is = (refl, cc)
-counted false m n is = let z : ◌≡◌ {A = ℕ} 0 1 = cc in absurd (omega arith)
+counted false m n is = cc
 
 pub blocks_counted : (paper : List ℕ) (n : ℕ) → Some n ≡ count_in (length paper) → length paper / 512 ≡ n
 blocks_counted paper n long = (counted (is_length (length paper)) (length paper / 512) n long).1
