@@ -17,6 +17,7 @@ fn write_blocks(buffer: &mut [u8], header: Header, records: &Records<'_>)
     ensures { buffer.new ≡ paper_bytes header records.now.all.now }
 {
     for (i, group) in records.all.chunks(FULL).enumerate() {
+        // By its place: of a buffer that `chunks_mut` lent, beside the groups by `zip`, a proof would know only the length.
         let from = BLOCK * i;
         write_block(&mut buffer[from..from + BLOCK], header, i as u8, group);
     }
