@@ -1,5 +1,6 @@
-// One block of a paper, written into a lent part of the buffer. A block and a record are lent in loops, as slices: what is
-// written to an array that `first_chunk_mut` lends in a loop is not followed by the check.
+// One block of a paper, written into a lent part of the buffer. A block and a record stay slices: as an array, each would be
+// cut by its place and then turned by `as_mut_array`, and its contract would have to say its length after the write. That is
+// no plainer.
 ghost use Rattle.std.specs.Prelude.{◌≡◌, ◌≤◌, [], ◌∷◌, ◌++◌, length};
 ghost use Rattle.paper.specs.Headers.{header_bytes};
 ghost use Rattle.paper.specs.Records.{record_bytes};
