@@ -1,5 +1,6 @@
 ghost use Rattle.std.specs.Prelude.{◌≡◌};
-ghost use Rattle.blocks.specs.Faults.{figures_of, in_record};
+ghost use Rattle.blocks.specs.Faults.{figures_of};
+ghost use Rattle.blocks.specs.declared.fault.BlockFault.TheVariants.{Record};
 
 // An unfit record: its block, from 0, and its place in the block, from 1, or 0 for the bytes behind the last record. That 0 is
 // the number which the fault's line has: an Option would only be turned back into it.
@@ -15,8 +16,8 @@ pub enum BlockFault {
     // The check is not that of the bytes before it.
     Check { block: u8 },
     Header { block: u8 },
-    // A record, from 1, is unfit, or should be zero and is not; 0 stands for the bytes behind the last.
-    Record { block: u8, record: u8 },
+    // A record is unfit, or a byte should be zero and is not.
+    Record(RecordFault),
 }
 
 // How a fault is told: its number, the block, and the record, or 0 where none is meant.
@@ -43,7 +44,7 @@ impl BlockFault {
                 block,
                 record: 0,
             },
-            BlockFault::Record { block, record } => Figures {
+            BlockFault::Record(RecordFault { block, record }) => Figures {
                 number: 16,
                 block,
                 record,
@@ -53,12 +54,9 @@ impl BlockFault {
 }
 
 impl From<RecordFault> for BlockFault {
-    ghost from_gives = { λ e r. r ≡ in_record e };
+    ghost from_gives = { λ e r. r ≡ Record e };
 
     fn from(e: RecordFault) -> BlockFault {
-        BlockFault::Record {
-            block: e.block,
-            record: e.record,
-        }
+        BlockFault::Record(e)
     }
 }

@@ -23,6 +23,7 @@ pub trait LittleEndian {
         ensures { bytes.new ≡ bytes_of WIDTH (value self) };
 }
 
+// Three impls that differ only in type and width: a rule of the project, since an impl by a macro of its own is refused.
 impl LittleEndian for u16 {
     const WIDTH: usize = 2;
 
@@ -31,7 +32,7 @@ impl LittleEndian for u16 {
     ghost value = { λ n. n };
 
     fn from_bytes(bytes: &[u8]) -> u16 {
-        u16::from_le_bytes([bytes[0], bytes[1]])
+        u16::from_le_bytes(*bytes.as_array().unwrap())
     }
 
     fn put_bytes(self, bytes: &mut [u8]) {
@@ -47,7 +48,7 @@ impl LittleEndian for u32 {
     ghost value = { λ n. n };
 
     fn from_bytes(bytes: &[u8]) -> u32 {
-        u32::from_le_bytes([bytes[0], bytes[1], bytes[2], bytes[3]])
+        u32::from_le_bytes(*bytes.as_array().unwrap())
     }
 
     fn put_bytes(self, bytes: &mut [u8]) {
@@ -63,9 +64,7 @@ impl LittleEndian for u64 {
     ghost value = { λ n. n };
 
     fn from_bytes(bytes: &[u8]) -> u64 {
-        u64::from_le_bytes([
-            bytes[0], bytes[1], bytes[2], bytes[3], bytes[4], bytes[5], bytes[6], bytes[7],
-        ])
+        u64::from_le_bytes(*bytes.as_array().unwrap())
     }
 
     fn put_bytes(self, bytes: &mut [u8]) {

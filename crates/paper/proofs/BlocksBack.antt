@@ -46,7 +46,7 @@ front_back block long each =
 
 none_tells : (b : Bool) (o : Option ℕ) (k : ℕ) → cond (not b) (Some k) o ≡ None → (b ≡ true) × (o ≡ None)
 none_tells true o k is = (refl, is)
-none_tells false o k is = let z : ◌≡◌ {A = ℕ} 0 1 = cc in absurd (omega arith)
+none_tells false o k is = cc
 
 zeros_back : (bytes : List ℕ) (k : ℕ) → first_nonzero k bytes ≡ None → bytes ≡ replicate (length bytes) 0
 zeros_back [] k none = refl
@@ -57,7 +57,7 @@ zeros_back (b ∷ bs) k none =
 
 stray_none : (place from : ℕ) (o : Option ℕ) → stray place from o ≡ Ok tt → o ≡ None
 stray_none place from None is = refl
-stray_none place from (Some k) is = let z : ◌≡◌ {A = ℕ} 0 1 = cc in absurd (omega arith)
+stray_none place from (Some k) is = cc
 
 -- a block's first eight bytes, its records and the zeros behind them, put together again
 whole_body : (block : List ℕ) (n : ℕ) → n ≤ 19 → take 8 block ++ (take (26 * n) (drop 8 block) ++ take (504 - (8 + 26 * n)) (drop (8 + 26 * n) block)) ≡ take 504 block

@@ -4,7 +4,7 @@ use Rattle.std.proofs.lemmas.Bool.{cases_Bool}
 use Rattle.paper.specs.Records.{first_nonzero}
 
 nonzero_below : (bytes : List ℕ) (k p : ℕ) → first_nonzero k bytes ≡ Some p → p < k + length bytes
-nonzero_below [] k p is = let z : ◌≡◌ {A = ℕ} 0 1 = cc in absurd (omega arith)
+nonzero_below [] k p is = cc
 nonzero_below (b ∷ bs) k p is =
     ⊎_elim
     (λ t. let on : first_nonzero (k + 1) bs ≡ Some p = sym (ap (λ t. cond (not t) (Some k) (first_nonzero (k + 1) bs)) t) ∙ is in let h = nonzero_below bs (k + 1) p on in omega arith)

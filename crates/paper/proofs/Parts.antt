@@ -14,7 +14,7 @@ abbrev pub whole_of : List ℕ → Record
 whole_of part = unwrap_or (record_of part) (record_with part Post)
 
 pub map_tells : {X Y : Type 0} (f : X → Y) (o : Option X) (y : Y) → option_map f o ≡ Some y → (x : X) × (o ≡ Some x) × (f x ≡ y)
-map_tells f None y is = let z : ◌≡◌ {A = ℕ} 0 1 = cc in absurd (omega arith)
+map_tells f None y is = cc
 map_tells f (Some x) y is = (x, refl, cc)
 
 fits_some : (kind : ℕ) (o : Option Record) (d : Record) → option_map_or (record_fits kind) o false ≡ true → o ≡ Some (unwrap_or o d)

@@ -23,7 +23,7 @@ arm_back n k a c others code is behind =
 code_back : (n : ℕ) (c : Call) → call_of n ≡ Some c → code_of c ≡ n
 code_back n c is =
     arm_back n 1 Post c _ refl is (λ b. arm_back n 2 Reverse c _ refl b (λ d. arm_back n 3 Erase c _ refl d (λ e. arm_back n 4 LookUp c _ refl e
-    (λ f. arm_back n 5 Widen c _ refl f (λ g. arm_back n 6 Narrow c None refl g (λ h. let z : ◌≡◌ {A = ℕ} 0 1 = cc in absurd (omega arith)))))))
+    (λ f. arm_back n 5 Widen c _ refl f (λ g. arm_back n 6 Narrow c None refl g (λ h. cc))))))
 
 record_back : (bytes : List ℕ) (call : Call) → length bytes ≡ 26 → Bytes bytes → code_of call ≡ get_or bytes 0 0 → record_bytes (record_with bytes call) ≡ bytes
 record_back [] call long each is = absurd (omega arith)

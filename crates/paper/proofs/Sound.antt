@@ -3,11 +3,10 @@ use Rattle.std.proofs.Common.{◌≡◌, ℕ, zero, suc, ◌+◌, ◌*◌, ◌/�
 use Rattle.std.proofs.lemmas.List.{get_or-take, get_or-drop}
 use Rattle.std.proofs.lemmas.Bool.{false≢true, and_parts, leb-true, eqb-true}
 use Rattle.blocks.specs.Blocks.{blocks_in, check_holds, is_length}
-use Rattle.blocks.specs.Faults.{in_record}
 use Rattle.blocks.specs.Pieces.{pieces}
 use Rattle.blocks.proofs.Pieces.{slice_index_or_pieces, length_pieces}
 use Rattle.blocks.proofs.Tells.{cond_tells, then_tells}
-use Rattle.blocks.specs.declared.fault.BlockFault.TheVariants.{Check}
+use Rattle.blocks.specs.declared.fault.BlockFault.TheVariants.{Check, Record}
 use Rattle.paper.specs.Headers.{header_of}
 use Rattle.paper.specs.Checks.{block_checked, blocks_checked, front_fits, is_nil, paper_checked, records_checked, zeros_checked}
 use Rattle.paper.specs.declared.header.Header.{Header}
@@ -29,8 +28,8 @@ unfolding block_checked
 block_tells first place last block t is =
     let p = cond_tells (check_holds block) _ (Check place) t is in
     let q = cond_tells (front_fits first place last block) _ _ t p.1 in
-    let r = then_tells in_record (records_checked (get_or block 5 0) place 0 (pieces 26 (get_or block 6 0) (drop 8 block))) _ t q.1 in
-    let s = then_tells in_record (zeros_checked place (8 + 26 * get_or block 6 0) block) _ t r.1 in
+    let r = then_tells Record (records_checked (get_or block 5 0) place 0 (pieces 26 (get_or block 6 0) (drop 8 block))) _ t q.1 in
+    let s = then_tells Record (zeros_checked place (8 + 26 * get_or block 6 0) block) _ t r.1 in
     record { holds = p.0; front = front_tells first place last block q.0; records = r.0.1; zeros = s.0.1 }
 
 pub blocks_tell : (first : Header) (i : ℕ) (b : List ℕ) (bs : List (List ℕ)) (h : Header) → blocks_checked first i (b ∷ bs) ≡ Ok h → SoundBlock first i (is_nil bs) b × (blocks_checked first (suc i) bs ≡ Ok h)

@@ -1,6 +1,6 @@
 -- The steps of the loops over a block's records and a paper's blocks. Assumes nothing.
-use Rattle.std.proofs.Common.{◌≡◌, ℕ, suc, ◌+◌, ◌-◌, ◌*◌, ◌/◌, ◌<◌, ◌≤◌, Bool, true, false, cond, eqb, List, [], ◌∷◌, length, get_or, take, drop, Some, None, Ok, Err, Result, sym, refl, ap, ◌∙◌, add-one, arith, length-drop, length-take}
-use Rattle.std.proofs.lemmas.List.{at_drop_more, at_drop_all}
+use Rattle.std.proofs.Common.{◌≡◌, ℕ, suc, ◌+◌, ◌-◌, ◌*◌, ◌/◌, ◌<◌, ◌≤◌, Bool, true, false, cond, eqb, List, [], ◌∷◌, length, get_or, take, drop, Some, None, Err, Result, sym, refl, ap, ◌∙◌, add-one, arith, length-drop, length-take}
+use Rattle.std.proofs.lemmas.List.{at_drop_more}
 use Rattle.std.proofs.lemmas.Bool.Decides.{nat_tests}
 use Rattle.blocks.specs.Blocks.{blocks_in, count_in, is_length}
 use Rattle.blocks.specs.Faults.{then}
@@ -24,9 +24,6 @@ records_step kind place parts i fits inside is =
     at_drop_more (records_checked kind place i) parts i [] inside
     ∙ ap (λ t. cond t (records_checked kind place (suc i) (drop (i + 1) parts)) (Err (record { block = place; «record» = i + 1 }))) is
     ∙ ap (λ j. cond fits (records_checked kind place j (drop (i + 1) parts)) (Err (record { block = place; «record» = i + 1 }))) (sym (add-one i))
-
-pub records_none : (kind place : ℕ) (parts : List (List ℕ)) (i : ℕ) → length parts ≤ i → records_left kind place parts i ≡ Ok tt
-records_none kind place parts i past = at_drop_all (records_checked kind place i) parts i past
 
 -- the parts that the code cuts out of a block with n records
 pub block_parts : (block : List ℕ) (n end : ℕ) → length block ≡ 512 → n ≤ 19 → end ≡ 8 + 26 * n →
@@ -57,12 +54,9 @@ blocks_step first bs n i answer inside count is =
     ∙ ap (λ r. then InBlock r (blocks_checked first (suc i) rest)) (ap (λ t. block_checked first i t (get_or bs i [])) last ∙ is)
     ∙ ap (λ j. then InBlock answer (blocks_checked first j rest)) (sym (add-one i))
 
-pub blocks_none : (first : Header) (bs : List (List ℕ)) (i : ℕ) → length bs ≤ i → blocks_left first bs i ≡ Ok first
-blocks_none first bs i past = at_drop_all (blocks_checked first i) bs i past
-
 counted : (b : Bool) (m n : ℕ) → Some n ≡ cond b (Some m) None → (b ≡ true) × (m ≡ n)
 counted true m n is = (refl, cc)
-counted false m n is = let z : ◌≡◌ {A = ℕ} 0 1 = cc in absurd (omega arith)
+counted false m n is = cc
 
 pub blocks_counted : (paper : List ℕ) (n : ℕ) → Some n ≡ count_in (length paper) → length paper / 512 ≡ n
 blocks_counted paper n long = (counted (is_length (length paper)) (length paper / 512) n long).1

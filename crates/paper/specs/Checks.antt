@@ -2,11 +2,11 @@
 use Rattle.std.specs.Prelude.{ℕ, suc, ◌+◌, ◌-◌, ◌*◌, ◌/◌, Bool, true, false, cond, ◌&&◌, List, [], ◌∷◌, length, drop, Some, None, Ok, Err, Option, Result, ◌==◌, nat_le, nat_lt, slice_index, slice_range}
 use Rattle.std.specs.Option.{option_map_or}
 use Rattle.blocks.specs.Blocks.{is_length, blocks_in, check_holds}
-use Rattle.blocks.specs.Faults.{in_record, then}
+use Rattle.blocks.specs.Faults.{then}
 use Rattle.blocks.specs.Pieces.{pieces}
 use Rattle.blocks.specs.declared.fault.RecordFault.{RecordFault}
 use Rattle.blocks.specs.declared.fault.BlockFault.{BlockFault}
-use Rattle.blocks.specs.declared.fault.BlockFault.TheVariants.{Check, Header}
+use Rattle.blocks.specs.declared.fault.BlockFault.TheVariants.{Check, Header, Record}
 use Rattle.paper.specs.Headers.{header_of, header_fits, same_header}
 use Rattle.paper.specs.Records.{record_of, record_fits, first_nonzero}
 use Rattle.paper.specs.declared.header.Header as header
@@ -48,8 +48,8 @@ unfoldable pub block_checked : header.Header → ℕ → Bool → List ℕ → R
 block_checked first place last block =
     cond (check_holds block)
     (cond (front_fits first place last block)
-    (then in_record (records_checked (slice_index block 5) place 0 (pieces 26 (slice_index block 6) (drop 8 block)))
-    (then in_record (zeros_checked place (8 + 26 * slice_index block 6) block) (Ok tt)))
+    (then Record (records_checked (slice_index block 5) place 0 (pieces 26 (slice_index block 6) (drop 8 block)))
+    (then Record (zeros_checked place (8 + 26 * slice_index block 6) block) (Ok tt)))
     (Err (Header place)))
     (Err (Check place))
 

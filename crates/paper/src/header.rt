@@ -2,8 +2,12 @@ ghost use Rattle.std.specs.Prelude.{◌≡◌, ◌≤◌, length};
 ghost use Rattle.paper.specs.Headers.{header_of, header_fits, is_rule, is_kind, shape_fits};
 
 use numbers::little_endian::read;
+use rules::fnv::Fnv;
+use rules::plain_number::PlainNumber;
 use rules::rule::Rule;
+use tallies::replicas::Replicas;
 use tallies::tally::Tally;
+use tallies::traffic::Traffic;
 
 // What a paper says of its table: buckets, rows in use at the start, most rows, and the numbers of its rule and its kind.
 // It may break the limits of a header, and name no rule or kind: so these are numbers, matched against those that the rules
@@ -48,18 +52,16 @@ impl Header {
     }
 }
 
-// Whether the number names a rule.
+// Whether the number names a rule. Rules and tallies are two traits: so this and `is_kind` are two.
 fn is_rule(number: u8) -> bool
     ensures { result ≡ is_rule number }
 {
-    number == <rules::plain_number::PlainNumber as Rule>::rule_number()
-        || number == <rules::fnv::Fnv as Rule>::rule_number()
+    [PlainNumber::rule_number(), Fnv::rule_number()].contains(&number)
 }
 
 // Whether the number names a kind of tally.
 fn is_kind(number: u8) -> bool
     ensures { result ≡ is_kind number }
 {
-    number == <tallies::replicas::Replicas as Tally>::kind_number()
-        || number == <tallies::traffic::Traffic as Tally>::kind_number()
+    [Replicas::kind_number(), Traffic::kind_number()].contains(&number)
 }

@@ -2,7 +2,7 @@
 use Rattle.std.proofs.Common.{◌≡◌, ℕ, suc, ◌+◌, ◌-◌, ◌*◌, ◌<◌, ◌≤◌, min, List, [], ◌∷◌, ◌++◌, length, get_or, take, drop, set, replicate, sym, refl, ap, ◌∙◌, subst, ⊎_elim, append_assoc, append-nil, add-one, arith, length-append}
 use borrow.Rule.Slice.PartMut.{put_mid}
 use Rattle.std.specs.List.{flat_map}
-use Rattle.std.proofs.lemmas.List.{drop_all, drop_at, flat_map_more, length-replicate, take_all, take_at, take_more}
+use Rattle.std.proofs.lemmas.List.{drop_all, drop_at, flat_map_more, length-replicate, nil_from_length, take_all, take_at, take_more}
 use Rattle.std.proofs.lemmas.Slice.{take-put_mid}
 use Rattle.std.proofs.lemmas.Bool.{cases_lt}
 use Rattle.numbers.specs.Buffers.{put}
@@ -62,10 +62,6 @@ body_filled h place front records before after zeros i width head past within fe
     ∙ (λ k. head k ++ (flat_map record_bytes records ++ blank k))
     ∙ append_assoc (header_bytes h) (n ∷ place ∷ []) (flat_map record_bytes records ++ replicate (496 - 26 * n) 0)
 
-nil_of : {X : Type 0} (xs : List X) → length xs ≡ 0 → xs ≡ []
-nil_of [] none = refl
-nil_of (x ∷ xs) none = absurd (omega arith)
-
 -- a group of 19 records, or of all that are left
 record Cut (group rest : List Record) : Type 0 where
   front : take 19 (group ++ rest) ≡ group
@@ -77,7 +73,7 @@ cut group rest long some =
     let all = length-append group rest in
     ⊎_elim
     (λ less.
-    let none : rest ≡ [] = nil_of rest (omega arith) in
+    let none : rest ≡ [] = nil_from_length rest (omega arith) in
     record {
       front = take_all 19 (group ++ rest) (omega arith) ∙ ap (λ l. group ++ l) none ∙ append-nil group;
       back = drop_all 19 (group ++ rest) (omega arith) ∙ sym none;

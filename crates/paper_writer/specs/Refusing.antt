@@ -1,6 +1,6 @@
 -- What writing a paper answers, before a byte is written. Assumes nothing.
 use Rattle.std.specs.Prelude.{◌≡◌, ℕ, ◌+◌, ◌*◌, ◌/◌, ◌%◌, Bool, cond, ◌&&◌, List, [], ◌∷◌, length, Ok, Err, Result, ◌==◌, nat_le}
-use Rattle.blocks.specs.Faults.{in_record, then}
+use Rattle.blocks.specs.Faults.{then}
 use Rattle.blocks.specs.declared.fault.RecordFault.{RecordFault}
 use Rattle.blocks.specs.declared.fault.BlockFault.{BlockFault}
 use Rattle.blocks.specs.declared.fault.BlockFault.TheVariants as fault
@@ -21,7 +21,7 @@ records_checked kind k (r ∷ rs) = cond (record_fits kind r) (records_checked k
 
 -- the answer for a header and its records
 abbrev pub contents_checked : Header → List Record → Result (Unit {0}) BlockFault
-contents_checked h records = cond (header_fits h) (then in_record (records_checked h.kind 0 records) (Ok tt)) (Err (fault.Header 0))
+contents_checked h records = cond (header_fits h) (then fault.Record (records_checked h.kind 0 records) (Ok tt)) (Err (fault.Header 0))
 
 -- from one to 1,900 records, and a buffer of just the blocks that they need
 abbrev pub room_fits : ℕ → ℕ → Bool

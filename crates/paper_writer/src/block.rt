@@ -1,5 +1,6 @@
-// One block of a paper, written into a lent part of the buffer. A part is a slice: what is written to an array that
-// `first_chunk_mut` lends in a loop is not followed by the check.
+// One block of a paper, written into a lent part of the buffer. A block and a record stay slices: as an array, each would be
+// cut by its place and then turned by `as_mut_array`, and its contract would have to say its length after the write. That is
+// no plainer.
 ghost use Rattle.std.specs.Prelude.{◌≡◌, ◌≤◌, [], ◌∷◌, ◌++◌, length};
 ghost use Rattle.paper.specs.Headers.{header_bytes};
 ghost use Rattle.paper.specs.Records.{record_bytes};
@@ -13,12 +14,11 @@ use paper::layout::{FRONT, RECORD};
 use paper::record::Record;
 
 // Writes bytes 0 to 7 of a block.
-fn write_front(part: &mut [u8], header: Header, count: u8, place: u8)
-    requires { length part.old ≡ 8 }
+fn write_front(part: &mut [u8; FRONT], header: Header, count: u8, place: u8)
     ensures { part.new ≡ header_bytes header ++ (count ∷ place ∷ []) }
 {
     let [low, high] = header.buckets.to_le_bytes();
-    part.copy_from_slice(&[
+    *part = [
         low,
         high,
         header.rows,
@@ -27,7 +27,7 @@ fn write_front(part: &mut [u8], header: Header, count: u8, place: u8)
         header.kind,
         count,
         place,
-    ]);
+    ];
 }
 
 // Writes the 26 bytes of a record.
@@ -46,8 +46,14 @@ pub(crate) fn write_block(block: &mut [u8], header: Header, place: u8, records: 
     requires { (length block.old ≡ 512) × (length records.now ≤ 19) }
     ensures { block.new ≡ block_bytes header place records.now }
 {
-    write_front(&mut block[0..FRONT], header, records.len() as u8, place);
+    write_front(
+        block.first_chunk_mut().unwrap(),
+        header,
+        records.len() as u8,
+        place,
+    );
     for (i, record) in records.iter().enumerate() {
+        // By its place: of a block that `chunks_mut` lent, beside the records by `zip`, a proof would know only the length.
         let from = FRONT + RECORD * i;
         write_record(&mut block[from..from + RECORD], record);
     }

@@ -3,4 +3,5 @@
 
 mod block;
 mod check;
+mod records;
 pub mod write;

@@ -1,9 +1,10 @@
-ghost use Rattle.std.specs.Prelude.{◌≡◌, ◌*◌, ◌≤◌, true, length, is_ok, if◌then◌else◌};
+ghost use Rattle.std.specs.Prelude.{◌≡◌, ◌*◌, true, length, is_ok, if◌then◌else◌};
 ghost use Rattle.paper.specs.Writing.{blocks_for, paper_bytes};
 ghost use Rattle.paper_writer.specs.Refusing.{ReadsBack, write_checked};
 
 use crate::block::write_block;
 use crate::check::check_contents;
+use crate::records::Records;
 use blocks::block::BLOCK;
 use paper::fault::PaperFault;
 use paper::header::Header;
@@ -11,11 +12,12 @@ use paper::layout::{FULL, MOST_RECORDS};
 use paper::record::Record;
 
 // Writes 19 records to a block, the rest into the last.
-fn write_blocks(buffer: &mut [u8], header: Header, records: &[Record])
-    requires { (length buffer.old ≡ 512 * blocks_for (length records.now)) × (length records.now ≤ 1900) }
-    ensures { buffer.new ≡ paper_bytes header records.now }
+fn write_blocks(buffer: &mut [u8], header: Header, records: &Records<'_>)
+    requires { length buffer.old ≡ 512 * blocks_for (length records.now.all.now) }
+    ensures { buffer.new ≡ paper_bytes header records.now.all.now }
 {
-    for (i, group) in records.chunks(FULL).enumerate() {
+    for (i, group) in records.all.chunks(FULL).enumerate() {
+        // By its place: of a buffer that `chunks_mut` lent, beside the groups by `zip`, a proof would know only the length.
         let from = BLOCK * i;
         write_block(&mut buffer[from..from + BLOCK], header, i as u8, group);
     }
@@ -32,7 +34,8 @@ pub fn write_paper(header: Header, records: &[Record], buffer: &mut [u8]) -> Res
     if count == 0 || count > MOST_RECORDS || buffer.len() != BLOCK * count.div_ceil(FULL) {
         return Err(PaperFault::Length);
     }
-    check_contents(header, records)?;
-    write_blocks(buffer, header, records);
+    let records = Records { all: records };
+    check_contents(header, &records)?;
+    write_blocks(buffer, header, &records);
     Ok(())
 }

@@ -1,7 +1,7 @@
 use crate::samples::figures;
 use blocks::block::count_blocks;
 use blocks::check::{check_holds, write_check};
-use blocks::fault::BlockFault;
+use blocks::fault::{BlockFault, RecordFault};
 
 #[test]
 fn blocks_are_counted(rt: HostRuntime) {
@@ -36,10 +36,10 @@ fn faults_have_their_figures(rt: HostRuntime) {
         figures(15, 99, 0)
     );
     assert_eq!(rt;
-        BlockFault::Record {
+        BlockFault::Record(RecordFault {
             block: 8,
             record: 19,
-        }
+        })
         .figures(),
         figures(16, 8, 19)
     );

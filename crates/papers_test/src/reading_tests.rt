@@ -6,13 +6,9 @@ use paper::reader::Reader;
 // How many records the paper has, and all their octets.
 fn totals(paper: &[u8]) -> Result<(u64, u64), PaperFault> {
     check_paper(paper)?;
-    let mut records: u64 = 0;
-    let mut octets: u64 = 0;
-    for record in Reader::new(paper) {
-        records = records.wrapping_add(1);
-        octets = octets.wrapping_add(record.octets);
-    }
-    Ok((records, octets))
+    Ok(Reader::new(paper).fold((0_u64, 0_u64), |(records, octets), record| {
+        (records.wrapping_add(1), octets.wrapping_add(record.octets))
+    }))
 }
 
 #[test]

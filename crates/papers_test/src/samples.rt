@@ -90,7 +90,7 @@ pub fn put(paper: &mut [u8], block: usize, byte: usize, value: u8) {
     }
 }
 
-// The byte of a block, or 0 where the paper has none: a test that reads there fails by what it expects.
+// The byte of a block, or 0 where the paper has none.
 pub fn byte_at(paper: &[u8], block: usize, byte: usize) -> u8 {
     let block = paper.as_chunks::<BLOCK>().0.get(block);
     block

@@ -1,4 +1,5 @@
 use Rattle.std.proofs.Common.{◌≡◌, ℕ, List, Err, Result, sym, ap, ◌∙◌, arith}
+use Rattle.std.proofs.lemmas.List.{at_drop_all}
 use Rattle.std.proofs.lemmas.Bool.Decides.{nat_tests}
 use Rattle.std.proofs.lemmas.Result.{err_from_is_err_and}
 use Rattle.blocks.proofs.Bytes.{Bytes}
@@ -8,7 +9,7 @@ use Rattle.paper.specs.declared.header.Header.{Header}
 use Rattle.paper.specs.declared.fault.PaperFault.{PaperFault}
 use Rattle.paper.specs.declared.fault.PaperFault.TheVariants.{Length}
 use Rattle.paper.proofs.PapersBack.{paper_back}
-use Rattle.paper.proofs.Steps.{blocks_step, blocks_none, blocks_counted, paper_blocks}
+use Rattle.paper.proofs.Steps.{blocks_step, blocks_counted, paper_blocks}
 use Rattle.paper.proofs.check.check_paper.Goals as goal
 
 answers : (paper : List ℕ) (r : Result Header PaperFault) → Bytes paper → r ≡ paper_checked paper → (r ≡ paper_checked paper) × WritesBack paper r
@@ -42,7 +43,7 @@ pub returns : goal.returns
 returns c =
     let a =
     answers c.args.paper.now _ (λ i. (c.type_inv.paper i).fits)
-    (sym (blocks_none _ _ _ c.loop-i-test.false)
+    (sym (at_drop_all (blocks_checked _ _) _ _ c.loop-i-test.false)
     ∙ c.loop-i.invariant
     ∙ ap (blocks_checked _ 0) c.as_chunks.ensures.front
     ∙ paper_blocks _ _ _ c.in-Some.ensures c.read-header.ensures) in

@@ -1,12 +1,9 @@
-use Rattle.std.proofs.Common.{sym, refl, ap, ◌∙◌, append-nil, arith, rules, take}
+use Rattle.std.proofs.Common.{length, refl, ap, ◌∙◌, arith, rules, take}
 use Rattle.std.proofs.lemmas.List.{take_at}
 use Rattle.paper.specs.Writing.{block_bytes}
 use Rattle.blocks.specs.Blocks.{with_check}
 use Rattle.paper_writer.proofs.Fills.{record_next, body_filled}
 use Rattle.paper_writer.proofs.block.write_block.Goals as goal
-
-pub loop-i-init : goal.loop-i-init
-loop-i-init c = sym (append-nil _)
 
 pub loop-i-preserved : goal.loop-i-preserved
 loop-i-preserved c =
@@ -15,10 +12,10 @@ loop-i-preserved c =
 pub returns : goal.returns
 unfolding block_bytes
 returns c =
-    let whole = rw c.unwrap.ensures at c.as_mut_array.ensures.cases in
+    let whole = rw c.unwrap-2.ensures at c.as_mut_array.ensures.cases in
     c.write_check.ensures
     ∙ ap (λ b. with_check (take 504 b)) whole.same
     ∙ ap with_check
     (body_filled c.args.header c.args.place _ c.args.records.now c.loop-i.block _ c.fill.new.self c.loop-i.i _
-    (take_at c.write_front.new.part _ 8 (omega arith) ∙ c.write_front.ensures)
+    (take_at c.write_front.new.part _ 8 (ap length c.write_front.ensures) ∙ c.write_front.ensures)
     c.loop-i-test.false (omega arith) c.requires.1 c.loop-i.invariant (omega arith) refl (search rules))

@@ -11,7 +11,7 @@ loop-i-init c =
     record {
       wide = ap chunks_size source ∙ c.chunks.ensures.size;
       filling =
-          filling_first c.args.header c.args.records.now c.args.buffer.now _ _ (ap enumerate_count begun ∙ c.enumerate-i-items.ensures.count) (ap chunks_rest source ∙ c.chunks.ensures.rest);
+          filling_first c.args.header c.args.records.now.all.now c.args.buffer.now _ _ (ap enumerate_count begun ∙ c.enumerate-i-items.ensures.count) (ap chunks_rest source ∙ c.chunks.ensures.rest);
     }
 
 pub write_block-requires : goal.write_block-requires
@@ -30,9 +30,9 @@ loop-i-preserved c =
     record {
       wide = step.0.0 ∙ wide;
       filling =
-          filling_next c.args.header c.args.records.now c.loop-i.buffer _ c.write_block.new.block c.in-Some.i _ _ _ _ c.in-Some.group.now _ c.loop-i.invariant.filling step.1 step.2
+          filling_next c.args.header c.args.records.now.all.now c.loop-i.buffer _ c.write_block.new.block c.in-Some.i _ _ _ _ c.in-Some.group.now _ c.loop-i.invariant.filling step.1 step.2
           (omega arith) parts.0 (omega arith) parts.2 refl c.write_block.ensures (omega arith);
     }
 
 pub returns : goal.returns
-returns c = filling_last c.args.header c.args.records.now c.loop-i.buffer _ _ c.loop-i.invariant.filling (omega arith) c.in-None.ensures.steps.0.1.0
+returns c = filling_last c.args.header c.args.records.now.all.now c.loop-i.buffer _ _ c.loop-i.invariant.filling (omega arith) c.in-None.ensures.steps.0.1.0

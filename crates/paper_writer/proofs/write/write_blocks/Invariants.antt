@@ -7,5 +7,5 @@ use Rattle.paper_writer.proofs.write.write_blocks.Given as goal
 abbrev pub invariant-loop-i : goal.invariant-loop-i
 invariant-loop-i l = record {
   wide : chunks_size (enumerate_source l.i-iterator) ≡ 19;
-  filling : Filling l.header l.records l.buffer (enumerate_count l.i-iterator) (chunks_rest (enumerate_source l.i-iterator));
+  filling : Filling l.header l.records.all.now l.buffer (enumerate_count l.i-iterator) (chunks_rest (enumerate_source l.i-iterator));
 }
