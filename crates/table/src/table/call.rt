@@ -25,10 +25,10 @@ impl<T: Tally + Copy> Table<'_, T> {
             Request::Post {
                 key,
                 amount,
-                words: many,
+                words: count,
             } => {
-                let some = words.len().min(*many);
-                let posted = self.post(rule, key, *amount, &mut words[0..some]);
+                let lent = words.len().min(*count);
+                let posted = self.post(rule, key, *amount, &mut words[..lent]);
                 posted.map(Outcome::Tallied)
             }
             Request::Reverse { key, amount } => {
@@ -42,9 +42,9 @@ impl<T: Tally + Copy> Table<'_, T> {
                 let widened = self.widen()?;
                 Ok(Outcome::Sized(widened))
             }
-            Request::Narrow { words: many } => {
-                let some = words.len().min(*many);
-                let narrowed = self.narrow(&mut words[0..some])?;
+            Request::Narrow { words: count } => {
+                let lent = words.len().min(*count);
+                let narrowed = self.narrow(&mut words[..lent])?;
                 Ok(Outcome::Sized(narrowed))
             }
         }

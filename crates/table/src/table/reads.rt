@@ -58,7 +58,7 @@ impl<T: Tally + Copy> Table<'_, T> {
         find(self.seats, self.shape, fingerprint)
     }
 
-    // The tally of the seat `i`.
+    // The tally of the seat `i`. Asks that the seat is there, as `seats::write` does, whose first lines say why no type holds it.
     pub(crate) fn tally_of(&self, i: usize) -> T
         requires { i < length self.now.seats.now }
         ensures { result ≡ (at T.Tally.kind.empty self.now.seats.now i).tally }
