@@ -71,10 +71,9 @@ impl<T: Tally + Copy> Table<'_, T> {
         ensures { Did T.Tally.kind (R.Rule.meaning rule.now) self.now (looking key.now) (told_as Held result) self.now }
     {
         let fingerprint = self.fingerprint(rule, key)?;
-        // a proof does not see what a closure passed to `map` reads of the table
-        match self.seat_of(fingerprint) {
-            Some(i) => Ok(Some(self.tally_of(i))),
-            None => Ok(None),
-        }
+        // named outside the closure: of what a closure reads through `self` a proof learns nothing
+        let seats = &*self.seats;
+        let held = self.seat_of(fingerprint).map(|i| tally_at(seats, i));
+        Ok(held)
     }
 }
