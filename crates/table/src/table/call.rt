@@ -21,6 +21,7 @@ impl<T: Tally + Copy> Table<'_, T> {
         ensures words { WordsAfter request.now result words.old words.new }
     {
         // an enum and no closures: the calls are a closed set, and each takes arguments of its own
+        // the words are cut in two arms: a helper that lends the front of them would have to say what becomes of the rest
         match request {
             Request::Post {
                 key,
