@@ -34,8 +34,8 @@ fn first_seat<T: Tally + Copy, F: Fn(&Seat<T>) -> bool>(
     None
 }
 
-// The seat that holds the fingerprint at this flag, which is a place's: among the rows in use of that place's bucket, filled,
-// with the place's carry and flag.
+// The seat that holds the fingerprint at this flag: among the rows in use of its place's bucket, filled, with the place's
+// carry and flag. The flag is a `bool`, as in `Place`.
 fn seat_at<T: Tally + Copy>(
     seats: &[Seat<T>],
     shape: Shape,
