@@ -1,10 +1,8 @@
 -- The calls of a row, one after another. Assumes nothing.
-use Rattle.std.proofs.Common.{◌≡◌, ℕ, ◌+◌, ◌-◌, ◌*◌, ◌<◌, zero, suc, List, [], ◌∷◌, ◌++◌, map, length, take, drop, set, sym, refl, ap, ◌∙◌, append_assoc, append-nil, arith, length-append}
-use Rattle.std.specs.Simd.{first_chunks}
+use Rattle.std.proofs.Common.{◌≡◌, ℕ, ◌+◌, ◌-◌, ◌*◌, ◌<◌, List, [], ◌∷◌, ◌++◌, map, length, take, drop, set, sym, refl, ap, ◌∙◌, append_assoc, append-nil, arith, length-append}
 use Rattle.numbers.specs.Buffers.{put}
 use Rattle.numbers.proofs.Puts.{put_byte, put_put}
 use Rattle.numbers.proofs.Puts.{put_none}
-use Rattle.blocks.specs.Pieces.{pieces}
 use Rattle.blocks.proofs.Pieces.{pieces_more}
 use Rattle.tallies.specs.declared.replicas.Replicas.{Replicas}
 use Rattle.tallies.specs.Replicas.{replicas_kind}
@@ -15,11 +13,6 @@ use Rattle.seats.specs.Shapes.{Size}
 use Rattle.table.specs.declared.table.Table.{Table}
 use Rattle.table.specs.Tables.{Keeps, Did}
 use Rattle.exports.specs.Calls.{piece_asks, row_of, told}
-
--- std's chunks are the pieces
-pub chunks_are_pieces : (width n : ℕ) (bytes : List ℕ) → first_chunks width n bytes ≡ pieces width n bytes
-chunks_are_pieces width zero bytes = refl
-chunks_are_pieces width (suc n) bytes = ap (λ l. take width bytes ∷ l) (chunks_are_pieces width n (drop width bytes))
 
 -- i of n calls are made; what is noted of them, with the numbers of the calls to come on the book that the table keeps, is all
 pub record Going (all before : List ℕ) (t : Table Replicas) (bytes : List ℕ) (n : ℕ) (numbers : List ℕ) (i : ℕ) : Type 0 where

@@ -8,7 +8,7 @@ use Rattle.seats.specs.Shapes.{Size, wrong}
 use Rattle.book.specs.Answers.{answer_number}
 use Rattle.book.specs.Books.{Book, Call, post, reverse, erase, look_up, widen, narrow, answers}
 
--- how many work words are lent to each call: two for each bucket of the longest table
+-- how many work words are lent to each call: two for each bucket of a table with the most buckets
 abbrev pub lent : ℕ
 lent = 8192
 

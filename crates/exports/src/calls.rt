@@ -27,9 +27,9 @@ pub extern "C" fn sundrilga_make_calls(
     ensures after { numbers.new ≡ put numbers.old 0 (told (blank (size_of buckets most rows)) (row_of result calls.now)) }
 {
     let mut seats = [Seat::<Replicas>::empty(); SEATS];
-    let many = buckets as usize * most as usize;
-    match Shape::check(buckets, most, rows, many) {
-        Ok(shape) => make_row(&mut seats[0..many], shape, calls, numbers),
+    let count = buckets as usize * most as usize;
+    match Shape::check(buckets, most, rows, count) {
+        Ok(shape) => make_row(&mut seats[0..count], shape, calls, numbers),
         // C has no Result
         Err(_) => 0,
     }

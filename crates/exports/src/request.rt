@@ -9,11 +9,11 @@ use tallies::replicas::Replicas;
 // How many bytes ask for one call: its code, and a key of four bytes.
 pub(crate) const PIECE: usize = 5;
 
-// How many work words are lent: two for each bucket of the longest table.
+// How many work words are lent: two for each bucket of a table with the most buckets.
 pub(crate) const WORDS: usize = 8192;
 
-// What five bytes ask of the table. The codes are those of papers' records, and numbers, since C passes them. A code that
-// names no other call asks for a look-up.
+// What five bytes ask of the table. The codes are numbers, since C passes them. They are those of papers' records, and stand here
+// again, since `exports` has no edge to `paper`. A code that names no other call asks for a look-up.
 pub(crate) fn request_of<'k>(piece: &'k [u8; PIECE]) -> Request<'k, Replicas>
     ensures { asked lent result ≡ piece_asks piece.now }
 {

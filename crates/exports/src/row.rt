@@ -14,7 +14,8 @@ use table::table::Table;
 use tallies::replicas::Replicas;
 
 // Makes as many calls as there are pieces and places for numbers, writes each call's number into its place, and gives how many
-// were made.
+// were made. It asks how many seats are lent, since the table, the struct that holds them with the shape, is opened here. Its loop
+// is that of `replay` and no call of it, which would need arrays of requests and of answers for a row of any length: no heap.
 pub(crate) fn make_row(
     seats: &mut [Seat<Replicas>],
     shape: Shape,

@@ -25,9 +25,10 @@ fn own_seat<T: Tally + Copy>(seats: &[Seat<T>], shape: Shape, fingerprint: u32) 
     })
 }
 
-// Opens a seat for the fingerprint in one of its buckets, by moves if they are full. What `sizes` and `below` say stands in
-// the functions that this one calls too: a struct over the lent seats is no plainer, since each of its methods would have to
-// say that it keeps the struct's references.
+// Opens a seat for the fingerprint in one of its buckets, by moves if they are full. What `sizes` says stands in the functions
+// that this one calls too: a struct over the lent seats is no plainer, since each of its methods would have to say that it keeps
+// the struct's references. So does what `below` says: a field of `Traversal` would be one more of which each method has to say
+// that it stays, and a type for such a number would hold the shape, by which it is bounded, a second time.
 fn open_seat<T: Tally + Copy>(
     seats: &mut [Seat<T>],
     shape: Shape,

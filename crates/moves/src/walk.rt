@@ -10,7 +10,8 @@ use seats::seat::Seat;
 use seats::shape::Shape;
 use tallies::tally::Tally;
 
-// Moves the entry of the seat `from`, in `bucket`, on to the free seat `hole` of its other bucket.
+// Moves the entry of the seat `from`, in `bucket`, on to the free seat `hole` of its other bucket. Asks that the seats are there,
+// as `seats::write` does, whose first lines say why no type holds them.
 fn move_entry<T: Tally + Copy>(seats: &mut [Seat<T>], from: usize, bucket: u32, hole: usize)
     requires { (from < length seats.old) × (hole < length seats.old) }
     ensures { seats.new ≡ slice_set seats.old hole (moved T.Tally.kind.empty seats.old from bucket) }
@@ -48,7 +49,7 @@ pub(crate) fn walk_back<T: Tally + Copy>(
     hole
 }
 
-// Writes the entry of the fingerprint into the seat `hole` of one of its buckets.
+// Writes the entry of the fingerprint into the seat `hole` of one of its buckets. Asks that the seat is there, as `move_entry`.
 pub(crate) fn enter<T: Tally + Copy>(
     seats: &mut [Seat<T>],
     shape: Shape,

@@ -13,7 +13,7 @@ use Rattle.seats.specs.declared.seat.Seat.{Seat}
 use Rattle.seats.specs.Shapes.{Size, Sound}
 use Rattle.seats.specs.Places.{place_of, given_back}
 use Rattle.seats.specs.Seats.{Filled, Shows, Sits, at, vacant, held, changed}
-use Rattle.seats.proofs.Shown.{place_back, sits_kept, sits_one, same_bucket}
+use Rattle.seats.proofs.Shown.{place_back, none_since, sits_kept, sits_one, same_bucket}
 use Rattle.seats.proofs.Seated.{seat_of, sits_there}
 use Rattle.moves.specs.Opening.{Unseatable}
 use Rattle.moves.specs.Placed.{Accepted, Refused, bar}
@@ -114,10 +114,6 @@ module _ {X : Type 0} (e : X) {z : Size} (sound : Sound z) (more : 1 < z.rows) w
 
     pub new_below : below f ≡ None
     new_below = none_since (below f) (λ t is. not_last f i sits (last_row bucket) t is)
-      where
-        none_since : (o : Option X) → ((t : X) → o ≡ Some t → ⊥) → o ≡ None
-        none_since None h = refl
-        none_since (Some t) h = absurd (h t refl)
 
     -- what is below, and f, is held
     pub held_more : (g : ℕ) → also f (held below) g ≡ true → held entries g ≡ true

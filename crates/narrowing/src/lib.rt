@@ -27,7 +27,8 @@ fn fingerprint_at(shape: Shape, place: Place) -> Option<u32>
 }
 
 // Seats the entry in the last row of a bucket in the rows below, if there is one, and empties its seat. `lower` is the shape
-// with one row fewer. Refused where the entry has no seat there.
+// with one row fewer. Refused where the entry has no seat there. What `sizes` says is asked in `moves` too: a struct over the
+// lent seats is no plainer, as `open_seat` there says.
 fn lower_entry<T: Tally + Copy>(
     seats: &mut [Seat<T>],
     shape: Shape,
@@ -73,6 +74,7 @@ pub fn clear_last_row<T: Tally + Copy>(
     if seats.len() != shape.seats() {
         return Err(Refusal::Seats);
     }
+    // written out, since Rattle refuses `..shape` in a struct with a ghost field
     let lower = Shape {
         buckets: shape.buckets,
         most: shape.most,

@@ -1,3 +1,4 @@
+pub mod Rows
 pub mod Sitting
 pub mod Shown
 pub mod Seated

@@ -13,7 +13,8 @@ pub place_back : (m f : ℕ) (flag : Bool) → given_back m (place_of m f flag) 
 place_back m f true = div-add-mod' f m
 place_back m f false = div-add-mod' f m
 
-none_since : {A : Type 0} (o : Option A) → ((x : A) → o ≡ Some x → ⊥) → o ≡ None
+-- what is no value is nothing
+pub none_since : {A : Type 0} (o : Option A) → ((x : A) → o ≡ Some x → ⊥) → o ≡ None
 none_since None h = refl
 none_since (Some x) h = absurd (h x refl)
 

@@ -24,6 +24,8 @@ fn first_seat<T: Tally + Copy, F: Fn(&Seat<T>) -> bool>(
     let first = bucket as usize * shape.most as usize;
     let end = seats.len().min(first + shape.rows as usize);
     let rows = seats.get(first..end)?;
+    // a loop: `position` was tried, and its proof did not close, since the check asked of every state of the test, and not of
+    // those that are reached, that it may be called
     for (row, seat) in rows.iter().enumerate() {
         if test(seat) {
             return Some(first + row);
@@ -33,7 +35,7 @@ fn first_seat<T: Tally + Copy, F: Fn(&Seat<T>) -> bool>(
 }
 
 // The seat that holds the fingerprint at this flag: among the rows in use of its place's bucket, filled, with the place's
-// carry and flag.
+// carry and flag. The flag is a `bool`, as in `Place`.
 fn seat_at<T: Tally + Copy>(
     seats: &[Seat<T>],
     shape: Shape,

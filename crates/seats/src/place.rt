@@ -4,7 +4,8 @@ ghost use Rattle.seats.specs.Places.{place_of, given_back};
 use crate::shape::Shape;
 
 // A fingerprint's place in a bucket: at flag true the bucket is its quotient by the buckets and the carry its remainder,
-// at flag false the bucket is the remainder and the carry the quotient.
+// at flag false the bucket is the remainder and the carry the quotient. A flag and no enum, since these are the fields that a
+// seat has by a rule of the project (docs/TABLE.md).
 #[derive(Clone, Copy, PartialEq, Eq, Debug)]
 pub struct Place {
     pub bucket: u32,

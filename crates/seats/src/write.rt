@@ -1,5 +1,5 @@
-// Reading and writing one seat, and emptying all. Three functions ask that the seat is there: a type for such an index would
-// have to hold the lent slice, which its caller goes on using.
+// Reading and writing one seat, and emptying all. Three functions ask that the seat is there, and so do those of `moves` and of
+// `table` that are given one: a type for such an index would have to hold the lent slice, which its caller goes on using.
 ghost use Rattle.std.specs.Prelude.{◌≡◌, ◌<◌, length, replicate, slice_set};
 ghost use Rattle.seats.specs.Seats.{at, seat, vacant};
 
@@ -37,6 +37,8 @@ pub fn vacate<T: Tally + Copy>(seats: &mut [Seat<T>], i: usize) -> T
 pub fn vacate_all<T: Tally + Copy>(seats: &mut [Seat<T>])
     ensures { seats.new ≡ replicate (length seats.old) (vacant T.Tally.kind.empty) }
 {
+    // a loop: `fill` asks that a `clone` cannot fail, which no bound of `T` says here, and the borrow checker does not follow
+    // `fill_with` where the function's result names a `T` that no argument names
     for seat in seats.iter_mut() {
         *seat = Seat::empty();
     }

@@ -1,5 +1,5 @@
 -- The call that a request asks for, with a part of the work words. Assumes nothing.
-use Rattle.std.proofs.Common.{◌≡◌, ℕ, ◌-◌, min, List, length, take, ◌∙◌, subst, arith, length-take}
+use Rattle.std.proofs.Common.{◌≡◌, ℕ, min, List, length, take, ◌∙◌, subst, arith, length-take}
 use Rattle.tallies.specs.Kinds.{Kind}
 use Rattle.rules.specs.Rules.{Meaning}
 use Rattle.book.specs.Answers.{Answer}
@@ -12,5 +12,5 @@ pub did_same : {V : Type 0} {k : Kind V} {rule : Meaning} {t u : Table V} {c d :
 did_same {V} {k} {rule} {t} {u} {c} {d} {a} same did = subst (λ x. Did k rule t x a u) same did
 
 -- a front part of the words is as long as was asked for
-pub part_long : (words : List ℕ) (n many : ℕ) → n ≡ min (length words) many → length (take (n - 0) words) ≡ min (length words) many
-part_long words n many is = length-take (n - 0) words ∙ omega arith
+pub part_long : (words : List ℕ) (n count : ℕ) → n ≡ min (length words) count → length (take n words) ≡ min (length words) count
+part_long words n count is = length-take n words ∙ omega arith

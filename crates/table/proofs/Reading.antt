@@ -1,5 +1,6 @@
 -- Calls that leave the table as it is, and what the seats say of a fingerprint. Assumes nothing.
 use Rattle.std.proofs.Common.{◌≡◌, ℕ, ◌<◌, Bool, false, List, length, Some, None, Ok, Err, Option, Result, MatchOption, is_ok, ok_or, unwrap_or, sym, refl, ap, ◌∙◌, subst}
+use Rattle.std.specs.Option.{IsSomeAnd}
 use Rattle.std.specs.Result.{result_err}
 use Rattle.std.proofs.lemmas.Bool.{true≢false}
 use Rattle.std.proofs.lemmas.Option.{MatchOption-at_some, MatchOption-at_none}
@@ -47,6 +48,13 @@ module _ {V : Type 0} (k : Kind V) where
 
   pub sits_found : (t : Table V) (f : ℕ) (o : Option ℕ) (i : ℕ) → o ≡ Some i → MatchOption o ((j : ℕ) → SitsIn k t f j → ⊥) (λ j. SitsIn k t f j) → SitsIn k t f i
   sits_found t f o i some looked = MatchOption-at_some ((j : ℕ) → SitsIn k t f j → ⊥) (λ j. SitsIn k t f j) i some looked
+
+  -- what is found, if it is, has its seat's tally
+  pub reads_found : (t : Table V) (f : ℕ) (o : Option ℕ) (entry : Option V) (P : ℕ → V → Type 0) → ((i : ℕ) (v : V) → P i v → v ≡ (at k.empty t.seats.now i).tally) →
+      MatchOption o ((i : ℕ) → SitsIn k t f i → ⊥) (λ i. SitsIn k t f i) → MatchOption o (entry ≡ None) (λ i. IsSomeAnd entry (P i)) → Reads t f entry
+  reads_found t f None entry P says nowhere none = rw none (reads_none t f nowhere)
+  reads_found t f (Some i) (Some v) P says sits is = reads_some t f i v sits (says i v is)
+  reads_found t f (Some i) None P says sits is = absurd is
 
   pub sits_inside : (t : Table V) (f i : ℕ) → SitsIn k t f i → i < length t.seats.now
   sits_inside t f i sits = filled_inside k.empty t.seats.now i sits.filled

@@ -5,7 +5,7 @@ use Rattle.std.proofs.lemmas.List.{length-set}
 use Rattle.std.proofs.lemmas.Option.{none-some, same_Some}
 use Rattle.tallies.specs.Kinds.{Kind, Lawful}
 use Rattle.rules.specs.Rules.{Meaning}
-use Rattle.seats.specs.declared.refusal.Refusal.TheVariants.{LongKey, NoAmount, NotHeld, NotTakenBack}
+use Rattle.seats.specs.declared.refusal.Refusal.TheVariants.{LongKey, NoAmount, NotHeld}
 use Rattle.seats.specs.Shapes.{Size, size}
 use Rattle.seats.specs.Seats.{Shows, at, seat, vacant, changed}
 use Rattle.seats.proofs.Sitting.{shape_sound}

@@ -72,12 +72,7 @@ fn early_refusals_leave_seats_and_words(rt: HostRuntime) -> Result<(), Fail> {
     }
     assert_eq!(rt; few, [9; 3]);
     assert_eq!(rt; words, [9; 4]);
-    assert!(rt;
-        seats[0].tally.0 == 0
-            && seats[1].tally.0 == 0
-            && seats[2].tally.0 == 0
-            && seats[3].tally.0 == 0
-    );
+    assert_eq!(rt; seats, [Seat::empty(); 4]);
     Ok(())
 }
 
@@ -103,10 +98,7 @@ fn a_ceiling_refuses_and_leaves_the_tally(rt: HostRuntime) -> Result<(), Fail> {
         refusal_of(table.post(&PlainNumber, &[1], one, &mut words)),
         Some(7)
     );
-    let Ok(Some(held)) = table.look_up(&PlainNumber, &[1]) else {
-        return Err(Fail::new("the tally is gone"));
-    };
-    assert!(rt; held.packets == 1 && held.octets == 1_000_000_000_000_000);
+    assert_eq!(rt; table.look_up(&PlainNumber, &[1]), Ok(Some(most)));
     assert_eq!(rt; refusal_of(table.widen()), Some(11));
     Ok(())
 }

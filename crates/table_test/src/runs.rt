@@ -54,14 +54,17 @@ fn nine_calls_answer_as_worked_by_hand(rt: HostRuntime) -> Result<(), Fail> {
         &mut answers,
     );
     assert_eq!(rt; made, 9);
-    assert!(rt; answers[0] == Ok(Outcome::Tallied(Replicas(1))));
-    assert!(rt; answers[1] == Ok(Outcome::Tallied(Replicas(2))));
-    assert!(rt; answers[2] == Err(Refusal::NoSeating));
-    assert!(rt; answers[3] == Ok(Outcome::Sized(Rows { rows: 2, held: 2 })));
-    assert!(rt; answers[4] == Ok(Outcome::Tallied(Replicas(1))));
-    assert!(rt; answers[5] == Err(Refusal::NoNarrowSeating));
-    assert!(rt; answers[6] == Ok(Outcome::Held(None)));
-    assert!(rt; answers[7] == Ok(Outcome::Sized(Rows { rows: 1, held: 2 })));
-    assert!(rt; answers[8] == Ok(Outcome::Held(Some(Replicas(1)))));
+    let by_hand = [
+        Ok(Outcome::Tallied(Replicas(1))),
+        Ok(Outcome::Tallied(Replicas(2))),
+        Err(Refusal::NoSeating),
+        Ok(Outcome::Sized(Rows { rows: 2, held: 2 })),
+        Ok(Outcome::Tallied(Replicas(1))),
+        Err(Refusal::NoNarrowSeating),
+        Ok(Outcome::Held(None)),
+        Ok(Outcome::Sized(Rows { rows: 1, held: 2 })),
+        Ok(Outcome::Held(Some(Replicas(1)))),
+    ];
+    assert_eq!(rt; answers, by_hand);
     Ok(())
 }

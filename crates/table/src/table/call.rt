@@ -21,14 +21,15 @@ impl<T: Tally + Copy> Table<'_, T> {
         ensures words { WordsAfter request.now result words.old words.new }
     {
         // an enum and no closures: the calls are a closed set, and each takes arguments of its own
+        // the words are cut in two arms: a helper that lends the front of them would have to say what becomes of the rest
         match request {
             Request::Post {
                 key,
                 amount,
-                words: many,
+                words: count,
             } => {
-                let some = words.len().min(*many);
-                let posted = self.post(rule, key, *amount, &mut words[0..some]);
+                let lent = words.len().min(*count);
+                let posted = self.post(rule, key, *amount, &mut words[..lent]);
                 posted.map(Outcome::Tallied)
             }
             Request::Reverse { key, amount } => {
@@ -42,9 +43,9 @@ impl<T: Tally + Copy> Table<'_, T> {
                 let widened = self.widen()?;
                 Ok(Outcome::Sized(widened))
             }
-            Request::Narrow { words: many } => {
-                let some = words.len().min(*many);
-                let narrowed = self.narrow(&mut words[0..some])?;
+            Request::Narrow { words: count } => {
+                let lent = words.len().min(*count);
+                let narrowed = self.narrow(&mut words[..lent])?;
                 Ok(Outcome::Sized(narrowed))
             }
         }

@@ -14,7 +14,7 @@ use seats::write::{retally, vacate};
 use tallies::tally::Tally;
 
 impl<T: Tally + Copy> Table<'_, T> {
-    // Empties the seat `i`, counts one fingerprint fewer, and gives the tally that it had.
+    // Empties the seat `i`, counts one fingerprint fewer, and gives the tally that it had. Asks that the seat is there, as `tally_of`.
     fn take_out(&mut self, i: usize) -> T
         requires { i < length self.old.seats.now }
         ensures tally { result ≡ (at T.Tally.kind.empty self.old.seats.now i).tally }

@@ -58,7 +58,7 @@ impl<T: Tally + Copy> Table<'_, T> {
         find(self.seats, self.shape, fingerprint)
     }
 
-    // The tally of the seat `i`.
+    // The tally of the seat `i`. Asks that the seat is there, as `seats::write` does, whose first lines say why no type holds it.
     pub(crate) fn tally_of(&self, i: usize) -> T
         requires { i < length self.now.seats.now }
         ensures { result ≡ (at T.Tally.kind.empty self.now.seats.now i).tally }
@@ -71,10 +71,9 @@ impl<T: Tally + Copy> Table<'_, T> {
         ensures { Did T.Tally.kind (R.Rule.meaning rule.now) self.now (looking key.now) (told_as Held result) self.now }
     {
         let fingerprint = self.fingerprint(rule, key)?;
-        // a proof does not see what a closure passed to `map` reads of the table
-        match self.seat_of(fingerprint) {
-            Some(i) => Ok(Some(self.tally_of(i))),
-            None => Ok(None),
-        }
+        // named outside the closure: of what a closure reads through `self` a proof learns nothing
+        let seats = &*self.seats;
+        let held = self.seat_of(fingerprint).map(|i| tally_at(seats, i));
+        Ok(held)
     }
 }

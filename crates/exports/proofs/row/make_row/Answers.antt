@@ -8,7 +8,7 @@ use Rattle.table.specs.Requests.{asked}
 use Rattle.replay.proofs.Accounts.{fresh_keeps}
 use Rattle.numbers.specs.Buffers.{put}
 use Rattle.exports.specs.Calls.{piece_asks, row_of, told}
-use Rattle.exports.proofs.Answered.{chunks_are_pieces, going_first, going_on, gone}
+use Rattle.exports.proofs.Answered.{going_first, going_on, gone}
 use Rattle.exports.proofs.row.make_row.Goals as goal
 
 pub loop-i-init : goal.loop-i-init
@@ -26,7 +26,7 @@ loop-i-preserved c =
     let whole = length calls / 5 in
     let low : i < n = omega (arith, length-take n chunks) in
     let inside : i < whole = omega (arith, c.as_chunks.ensures.front_len) in
-    let piece = get_or-take n chunks i [] low ∙ ap (λ l. get_or l i []) (c.as_chunks.ensures.front ∙ chunks_are_pieces 5 whole calls) ∙ slice_index_or_pieces 5 i whole calls inside in (
+    let piece = get_or-take n chunks i [] low ∙ ap (λ l. get_or l i []) c.as_chunks.ensures.front ∙ slice_index_or_pieces 5 i whole calls inside in (
       going_on c.loop-i.invariant.0 (asked (length c.loop-i.words) c.request_of.result) c.call-answer.result c.call-answer.new.self _ c.number_of.result
           low (omega arith) (omega arith)
           (ap (λ n. asked n c.request_of.result) c.loop-i.invariant.1 ∙ c.request_of.ensures ∙ ap piece_asks piece)

@@ -5,6 +5,7 @@ use Rattle.std.proofs.lemmas.List.Edits.{get_or-between}
 use Rattle.std.specs.Fn.{FnReturnsAt}
 use Rattle.seats.specs.declared.seat.Seat.{Seat}
 use Rattle.seats.specs.Seats.{vacant}
+use Rattle.seats.proofs.Rows.{read_row}
 use Rattle.seats.proofs.find.first_seat.Goals as goal
 
 pub loop-row-preserved : goal.loop-row-preserved
@@ -16,15 +17,12 @@ loop-row-preserved g c =
 
 pub returns-then-test : goal.returns-then-test
 returns-then-test g c =
-    let none = vacant g.T.Tally.kind.empty in
     let seats = c.args.seats.now in
     let rows = c.in_ok-rows.rows.now in
     let first = c.args.bucket * c.args.shape.most in
     let row = c.loop-row.row in
     let (part, _) = c.in_ok-rows.ensures.lookup in
-    let within : first + row < c.min-end.result = omega arith in
-    let there = get_or_read rows row c.index-rows-row.result c.loop-row-test.true c.index-rows-row.is none
-    ∙ ap (λ xs. get_or xs row none) part.2 ∙ get_or-between seats first c.min-end.result row none within in
+    let (within, there) = read_row g.T.Tally.kind.empty seats rows first c.min-end.result row c.index-rows-row.result part.2 (omega arith) c.loop-row-test.true c.index-rows-row.is in
     ((row, omega arith, refl), omega arith, subst (λ (s : Seat g.row.T.Denot). FnReturnsAt g.F.Fn c.args.test s true) there (says_at g.F.Fn c.test.ensures c.if-test.true))
 
 pub returns : goal.returns

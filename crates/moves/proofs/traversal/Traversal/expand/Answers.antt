@@ -1,12 +1,11 @@
-use Rattle.std.proofs.Common.{◌≡◌, ℕ, ◌+◌, ◌-◌, ◌*◌, ◌<◌, ◌≤◌, List, length, get_or, sym, refl, ap, ◌∙◌, subst, arith}
-use Rattle.std.proofs.lemmas.List.{get_or_read}
-use Rattle.std.proofs.lemmas.List.Edits.{get_or-between, length-between}
-use Rattle.std.specs.List.{between}
+use Rattle.std.proofs.Common.{◌≡◌, ℕ, ◌+◌, ◌-◌, ◌*◌, ◌<◌, ◌≤◌, List, get_or, sym, refl, ap, ◌∙◌, subst, arith}
+use Rattle.std.proofs.lemmas.List.Edits.{length-between}
 use Rattle.std.proofs.lemmas.Bool.{both_ways}
 use Rattle.seats.specs.declared.seat.Seat.{Seat}
 use Rattle.seats.specs.declared.shape.Shape.{Shape}
 use Rattle.seats.specs.Shapes.{Size, Sound, size}
-use Rattle.seats.specs.Seats.{at, vacant, Filled}
+use Rattle.seats.specs.Seats.{Filled}
+use Rattle.seats.proofs.Rows.{read_row}
 use Rattle.seats.proofs.Sitting.{shape_sound}
 use Rattle.moves.specs.declared.traversal.Traversal.{Traversal}
 use Rattle.moves.specs.Tree.{Reached}
@@ -20,13 +19,6 @@ use Rattle.moves.proofs.traversal.Traversal.expand.Goals.{then-seat-shape, else-
 inside : {X : Type 0} {e : X} {seats : List (Seat X)} {z : Size} {links queue : List ℕ} {head tail bucket : ℕ} → Sound z → Reached e seats z links queue head tail →
     (head < tail) × (bucket ≡ get_or queue head 0) → bucket * z.most + z.rows ≤ z.buckets * z.most
 inside {bucket} sound r left = bucket_inside sound bucket (omega (arith, left.1, r.order.low _ left.0))
-
--- what is read at a row of a part of the seats
-read_row : {X : Type 0} (e : X) (seats : List (Seat X)) (first rows row : ℕ) (x : Seat X) → first + rows ≤ length seats → row < length (between first (first + rows) seats) →
-    x ≡ get_or (between first (first + rows) seats) row x → (row < rows) × (x ≡ at e seats (first + row))
-read_row e seats first rows row x inside low is =
-    let long = length-between seats first (first + rows) inside in
-    (omega (arith, long), get_or_read (between first (first + rows) seats) row x low is (vacant e) ∙ get_or-between seats first (first + rows) row (vacant e) (omega (arith, long)))
 
 pub slice_bounds-rows-end : goal.slice_bounds-rows-end
 slice_bounds-rows-end g c = omega (arith, inside (shape_sound c.args.self.now.shape) c.requires.reached c.requires.left)
@@ -43,7 +35,9 @@ returns-then-is_empty g c =
     let x = c.loop-row.invariant.expanding in
     let shape = c.args.self.now.shape in
     let within = inside (shape_sound shape) c.requires.reached c.requires.left in
-    let (low, read) = read_row e xs (c.args.bucket * shape.most) shape.rows c.loop-row.row c.index-rows-row.result (omega arith) c.loop-row-test.true c.index-rows-row.is in
+    let first = c.args.bucket * shape.most in
+    let (past, read) = read_row e xs _ first (first + shape.rows) c.loop-row.row c.index-rows-row.result refl (omega arith) c.loop-row-test.true c.index-rows-row.is in
+    let low : c.loop-row.row < shape.rows = omega arith in
     let empty = (g.met.T.Tally.lawful.empty_told c.index-rows-row.result.tally).0 (sym c.is_empty.ensures.value ∙ c.if-is_empty.true) in
     record {
       shape = c.loop-row.invariant.shape;
@@ -67,7 +61,9 @@ loop-row-preserved g c =
     let row = c.loop-row.row in
     let i = c.args.bucket * old.shape.most + row in
     let within = inside sound c.requires.reached c.requires.left in
-    let (low, read) = read_row e xs (c.args.bucket * old.shape.most) old.shape.rows row c.index-rows-row.result (omega arith) c.loop-row-test.true c.index-rows-row.is in
+    let first = c.args.bucket * old.shape.most in
+    let (past, read) = read_row e xs _ first (first + old.shape.rows) row c.index-rows-row.result refl (omega arith) c.loop-row-test.true c.index-rows-row.is in
+    let low : row < old.shape.rows = omega arith in
     let filled : Filled e xs i = λ empty.
     both_ways c.is_empty.result c.if-is_empty.false
     (c.is_empty.ensures.value ∙ (g.met.T.Tally.lawful.empty_told c.index-rows-row.result.tally).1 (ap (λ (s : Seat g.row.T.Denot). s.tally) read ∙ empty))

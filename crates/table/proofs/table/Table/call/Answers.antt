@@ -17,12 +17,12 @@ returns-in_err-widened-in-Widen-clause-did g c =
 pub returns-in_ok-narrowed-in-Narrow-clause-did : goal.returns-in_ok-narrowed-in-Narrow-clause-did
 returns-in_ok-narrowed-in-Narrow-clause-did g c =
     let words = c.args.words.now in
-    let long = part_long words c.min-some-in-Narrow.result c.in-Narrow.many c.min-some-in-Narrow.ensures in
+    let long = part_long words c.min-lent-in-Narrow.result c.in-Narrow.count c.min-lent-in-Narrow.ensures in
     did_same (ap narrow long ∙ sym (ap (asked (length words)) c.in-Narrow.is)) (c.in_ok-narrowed-in-Narrow.ensures.did (g.R.Rule.meaning c.args.rule.now))
 
 pub returns-in_err-narrowed-in-Narrow-clause-did : goal.returns-in_err-narrowed-in-Narrow-clause-did
 returns-in_err-narrowed-in-Narrow-clause-did g c =
     let words = c.args.words.now in
-    let long = part_long words c.min-some-in-Narrow.result c.in-Narrow.many c.min-some-in-Narrow.ensures in
+    let long = part_long words c.min-lent-in-Narrow.result c.in-Narrow.count c.min-lent-in-Narrow.ensures in
     let p = err_from_is_err_and c.from_residual-in_err-narrowed-in-Narrow.result c.from_residual-in_err-narrowed-in-Narrow.ensures.1 in
     rw (p.1, p.2) (did_same (ap narrow long ∙ sym (ap (asked (length words)) c.in-Narrow.is)) (c.in_err-narrowed-in-Narrow.ensures.did (g.R.Rule.meaning c.args.rule.now)))
