@@ -53,8 +53,9 @@ const LARGE_PAPERS: [(&str, Header, u64, u64); 4] = [
 // What is printed of a paper.
 fn printed(rt: &HostRuntime, paper: &[u8]) -> anyhow::Result<Vec<u8>> {
     let mut out = vec![in rt.alloc(); 0; MOST_PRINTED]?;
-    let many = print_paper(paper, out.as_mut_slice())
-        .map_err(|_| anyhow!("there is no room to print"))?;
+    let many = print_paper(paper, out.as_mut_slice()).map_err(|_| anyhow!(
+        "there is no room to print"
+    ))?;
     out.truncate(many);
     Ok(out)
 }
@@ -62,8 +63,7 @@ fn printed(rt: &HostRuntime, paper: &[u8]) -> anyhow::Result<Vec<u8>> {
 // The sample's bytes.
 fn nine_paper() -> anyhow::Result<[u8; 512]> {
     let mut paper = [0; 512];
-    write_paper(NINE, &nine_calls(), &mut paper)
-        .map_err(|_| anyhow!("the sample is not written"))?;
+    write_paper(NINE, &nine_calls(), &mut paper).map_err(|_| anyhow!("the sample is not written"))?;
     Ok(paper)
 }
 

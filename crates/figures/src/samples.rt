@@ -116,7 +116,8 @@ pub fn large_paper(rt: &HostRuntime, header: Header) -> anyhow::Result<Vec<u8>> 
         .map(|i| large_call(i, traffic))
         .collect(rt.alloc())?;
     let mut paper = vec![in rt.alloc(); 0; 51200]?;
-    write_paper(header, records.as_slice(), paper.as_mut_slice())
-        .map_err(|_| anyhow!("the large paper is not written"))?;
+    write_paper(header, records.as_slice(), paper.as_mut_slice()).map_err(|_| anyhow!(
+        "the large paper is not written"
+    ))?;
     Ok(paper)
 }

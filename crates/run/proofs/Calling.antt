@@ -1,39 +1,20 @@
 -- One call of a run: its figures and its line, held against the book. Assumes nothing.
-use Rattle.std.proofs.Common.{◌≡◌, ℕ, ◌^◌, ◌<◌, ◌≤◌, true, false, cond, length, Some, Ok, Err, Option, sym, ap, ◌∙◌, subst, arith}
-use Rattle.std.proofs.lemmas.Bool.{le-ltb}
+use Rattle.std.proofs.Common.{◌≡◌, ℕ, ◌^◌, ◌<◌, ◌≤◌, length, Ok, Err, sym, ap, ◌∙◌, subst, arith}
 use Rattle.std.proofs.lemmas.Fmt.{length-decimal-le}
 use Rattle.tallies.specs.Kinds.{Kind}
 use Rattle.rules.specs.Rules.{Meaning}
 use Rattle.seats.specs.declared.refusal.Refusal.{Refusal}
 use Rattle.seats.specs.declared.refusal.Refusal.TheVariants.{Buckets, Rows, Seats, Words, LongKey, NoAmount, Ceiling, NoSeating, NotHeld, NotTakenBack, RowLimit, NoNarrowSeating}
 use Rattle.seats.specs.Refusals.{refusal_number}
-use Rattle.book.specs.declared.answer.Outcome.TheVariants.{Held}
 use Rattle.book.specs.Answers.{Answer, answer_number}
-use Rattle.book.specs.Books.{Book, Call, look_up, holding, fingerprint, too_long, check, answer, after}
+use Rattle.book.specs.Books.{Book, Call, answer, after}
 use Rattle.table.specs.declared.table.Table.{Table}
 use Rattle.table.specs.Tables.{Keeps, Did}
 use Rattle.paper.specs.declared.«record».Record.{Record}
-use Rattle.paper.specs.Records.{takes_key}
 use Rattle.run.specs.Lines.{line}
-use Rattle.run.specs.Printed.{call_for, call_line, figures_held, figures_after}
+use Rattle.run.specs.Printed.{call_for, call_line, figures_after}
 use Rattle.run.specs.Called.{Called}
 use Rattle.run.proofs.Written.{figure_long, line_long}
-
--- the figures of the tally that a look-up finds
-module _ {V : Type 0} (k : Kind V) (rule : Meaning) (shown : V → ℕ × ℕ) (small : (v : V) → k.is_value v ≡ true → (shown v).1 ≤ 1000000000000000) where
-  held_same : (x y : Option V) → ◌≡◌ {A = Answer V} (Ok (Held x)) (Ok (Held y)) → x ≡ y
-  held_same x y e = cc
-
-  pub found : (t : Table V) (b : Book V) (r : Record) (v : V) (figures : ℕ × ℕ) → Keeps k t b → takes_key r.call ≡ true → length r.key ≡ 13 → Ok (Held (Some v)) ≡ answer k rule b (look_up r.key) → figures ≡ shown v →
-      (figures ≡ figures_after rule shown b r) × (figures.1 ≤ 1000000000000000)
-  found t b r v figures keeps keyed long looked is =
-      let entry = b.entries (fingerprint rule b r.key) in
-      let short : too_long r.key ≡ false = le-ltb 64 (length r.key) (omega arith) in
-      let holds : Some v ≡ entry = held_same (Some v) entry (looked ∙ ap (λ x. (check b x LongKey (record { answer = Ok (Held entry); book = b })).answer) short) in
-      let low = small v (keeps.values (fingerprint rule b r.key) v (sym holds)) in (
-        is ∙ ap (figures_held shown) holds ∙ sym (ap (λ x. cond x (figures_held shown entry) (b.size.rows, holding b)) keyed),
-        subst (λ n. n ≤ 1000000000000000) (sym (ap (λ (p : ℕ × ℕ). p.1) is)) low,
-      )
 
 refusals_few : (why : Refusal) → refusal_number why < 100
 refusals_few Buckets = omega arith

@@ -1,5 +1,5 @@
 -- What is printed, by the check of the paper and the room in the buffer. Assumes nothing.
-use Rattle.std.proofs.Common.{◌≡◌, ℕ, ◌<◌, ◌≤◌, Bool, true, false, cond, ltb, List, ◌++◌, length, take, drop, Ok, Err, Result, sym, refl, ap, ◌∙◌, subst, append_assoc, arith, ltb-false}
+use Rattle.std.proofs.Common.{◌≡◌, ℕ, ◌<◌, ◌≤◌, Bool, true, false, cond, ltb, List, ◌++◌, length, take, drop, Ok, Err, Result, sym, ap, ◌∙◌, subst, append_assoc, arith}
 use Rattle.std.proofs.lemmas.List.{drop-append-le, length-take-le, take-append-drop}
 use Rattle.std.proofs.lemmas.Bool.{le-ltb}
 use Rattle.std.proofs.lemmas.Fmt.{length-decimal-le}
@@ -91,26 +91,7 @@ module _ (paper out mid : List ℕ) where
       by_check false (Ok h) answer after = record { answer = answer; after = after }
       by_check false (Err fault) answer after = cc
 
-  pub room_answered : (why : RunFault) → why ≡ Room → Ran out (paper_checked paper) (paper_records paper) (Err why) mid → Answered (ltb (length out) 68400) out mid (printed paper) (Err Room)
-  room_answered why is told = by_check (ltb (length out) 68400) (paper_checked paper) told.answer told.after
-    where
-      by_check : (short : Bool) (checked : Result Header PaperFault) → Err why ≡ cond short (Err Room) (answer_to checked (paper_records paper)) → mid ≡ cond short out (buffer_after out checked (paper_records paper)) →
-          Answered short out mid (printed paper) (Err Room)
-      by_check true checked answer after = record { answer = refl; after = after }
-      by_check false (Ok h) answer after = cc
-      by_check false (Err fault) answer after = cc
-
   module _ (why : RunFault) (fault : PaperFault) (is : why ≡ InPaper fault) where
-    -- there is room, and nothing is written
-    pub fault_leaves : Ran out (paper_checked paper) (paper_records paper) (Err why) mid → (68400 ≤ length out) × (mid ≡ out)
-    fault_leaves told = let (roomy, same) = by_check (ltb (length out) 68400) (paper_checked paper) told.answer told.after in (ltb-false (length out) 68400 roomy, same)
-      where
-        by_check : (short : Bool) (checked : Result Header PaperFault) → Err why ≡ cond short (Err Room) (answer_to checked (paper_records paper)) → mid ≡ cond short out (buffer_after out checked (paper_records paper)) →
-            (short ≡ false) × (mid ≡ out)
-        by_check true checked answer after = cc
-        by_check false (Ok h) answer after = cc
-        by_check false (Err other) answer after = (refl, after)
-
     pub fault_answered : (end : List ℕ) (n : ℕ) → Ran out (paper_checked paper) (paper_records paper) (Err why) mid → Wrote mid (fault_line (figures_of fault)) n end →
         Answered (ltb (length out) 68400) out end (printed paper) (Ok n)
     unfolding printed

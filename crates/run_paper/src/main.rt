@@ -18,8 +18,9 @@ fn read_paper(rt: &HostRuntime) -> io::Result<Vec<u8>> {
 fn main(rt: HostRuntime) -> io::Result<()> {
     let paper = read_paper(&rt)?;
     let mut out = vec![in rt.alloc(); 0; most_printed()]?;
-    let printed = print_paper(paper.as_slice(), out.as_mut_slice())
-        .map_err(|_| io::Error::from(io::ErrorKind::Other))?;
+    let printed = print_paper(paper.as_slice(), out.as_mut_slice()).map_err(|_| io::Error::from(
+        io::ErrorKind::Other,
+    ))?;
     out.truncate(printed);
     rt.stdout().write_all(out.as_slice())
 }
