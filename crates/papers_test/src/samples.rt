@@ -7,11 +7,11 @@ use paper::header::Header;
 use paper::record::{Call, Record};
 use paper_writer::write::write_paper;
 
-pub const LONGEST: usize = 51200;
+pub(crate) const LONGEST: usize = 51200;
 
-pub const MOST_RECORDS: usize = 1900;
+pub(crate) const MOST_RECORDS: usize = 1900;
 
-pub const TRAFFIC: Header = Header {
+pub(crate) const TRAFFIC: Header = Header {
     buckets: 256,
     rows: 1,
     most: 8,
@@ -19,7 +19,7 @@ pub const TRAFFIC: Header = Header {
     kind: 2,
 };
 
-pub const REPLICAS: Header = Header {
+pub(crate) const REPLICAS: Header = Header {
     buckets: 2,
     rows: 1,
     most: 1,
@@ -27,9 +27,9 @@ pub const REPLICAS: Header = Header {
     kind: 1,
 };
 
-pub const KEY: [u8; 13] = [1, 2, 3, 4, 5, 6, 7, 8, 9, 10, 11, 12, 13];
+pub(crate) const KEY: [u8; 13] = [1, 2, 3, 4, 5, 6, 7, 8, 9, 10, 11, 12, 13];
 
-pub fn post(packets: u32, octets: u64) -> Record {
+pub(crate) fn post(packets: u32, octets: u64) -> Record {
     Record {
         call: Call::Post,
         key: KEY,
@@ -38,7 +38,7 @@ pub fn post(packets: u32, octets: u64) -> Record {
     }
 }
 
-pub fn widen() -> Record {
+pub(crate) fn widen() -> Record {
     Record {
         call: Call::Widen,
         key: [0; 13],
@@ -47,7 +47,7 @@ pub fn widen() -> Record {
     }
 }
 
-pub fn figures(number: u8, block: u8, record: u8) -> Figures {
+pub(crate) fn figures(number: u8, block: u8, record: u8) -> Figures {
     Figures {
         number,
         block,
@@ -56,17 +56,17 @@ pub fn figures(number: u8, block: u8, record: u8) -> Figures {
 }
 
 // A fault with these figures.
-pub fn told(number: u8, block: u8, record: u8) -> Option<Figures> {
+pub(crate) fn told(number: u8, block: u8, record: u8) -> Option<Figures> {
     Some(figures(number, block, record))
 }
 
 // The figures of the paper's fault, if it has one.
-pub fn figures_of(paper: &[u8]) -> Option<Figures> {
+pub(crate) fn figures_of(paper: &[u8]) -> Option<Figures> {
     check_paper(paper).err().map(|fault| fault.figures())
 }
 
 // The figures of the writer's refusal, if it refuses.
-pub fn figures_of_writing(
+pub(crate) fn figures_of_writing(
     header: Header,
     records: &[Record],
     buffer: &mut [u8],
@@ -76,13 +76,13 @@ pub fn figures_of_writing(
 }
 
 // Writes the check of a block anew.
-pub fn mend(paper: &mut [u8], block: usize) {
+pub(crate) fn mend(paper: &mut [u8], block: usize) {
     if let Some(bytes) = paper.as_chunks_mut::<BLOCK>().0.get_mut(block) {
         write_check(bytes);
     }
 }
 
-pub fn put(paper: &mut [u8], block: usize, byte: usize, value: u8) {
+pub(crate) fn put(paper: &mut [u8], block: usize, byte: usize, value: u8) {
     if let Some(bytes) = paper.as_chunks_mut::<BLOCK>().0.get_mut(block) {
         if let Some(place) = bytes.get_mut(byte) {
             *place = value;
@@ -91,7 +91,7 @@ pub fn put(paper: &mut [u8], block: usize, byte: usize, value: u8) {
 }
 
 // The byte of a block, or 0 where the paper has none.
-pub fn byte_at(paper: &[u8], block: usize, byte: usize) -> u8 {
+pub(crate) fn byte_at(paper: &[u8], block: usize, byte: usize) -> u8 {
     let block = paper.as_chunks::<BLOCK>().0.get(block);
     block
         .and_then(|bytes| bytes.get(byte))
@@ -100,7 +100,12 @@ pub fn byte_at(paper: &[u8], block: usize, byte: usize) -> u8 {
 }
 
 // The figures after one byte is changed and the block's check mended. The paper is as it was then.
-pub fn figures_with(paper: &mut [u8], block: usize, byte: usize, value: u8) -> Option<Figures> {
+pub(crate) fn figures_with(
+    paper: &mut [u8],
+    block: usize,
+    byte: usize,
+    value: u8,
+) -> Option<Figures> {
     let old = byte_at(paper, block, byte);
     put(paper, block, byte, value);
     mend(paper, block);

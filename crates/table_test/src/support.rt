@@ -3,7 +3,7 @@ use seats::seat::Seat;
 use tallies::replicas::Replicas;
 
 // A seat with something in it that no table put there.
-pub fn stale() -> Seat<Replicas> {
+pub(crate) fn stale() -> Seat<Replicas> {
     Seat {
         carry: 7,
         flag: true,
@@ -12,6 +12,6 @@ pub fn stale() -> Seat<Replicas> {
 }
 
 // The number of the refusal, if the call was refused.
-pub fn refusal_of<X: Drop>(outcome: Result<X, Refusal>) -> Option<u8> {
+pub(crate) fn refusal_of<X: Drop>(outcome: Result<X, Refusal>) -> Option<u8> {
     outcome.err().map(Refusal::number)
 }
