@@ -11,11 +11,10 @@ use Rattle.blocks.proofs.Checks.{check_written_back}
 use Rattle.blocks.proofs.Pieces.{joined_pieces, length_pieces, pieces_even}
 use Rattle.paper.specs.Headers.{header_bytes, header_of, same_header}
 use Rattle.paper.specs.Records.{first_nonzero, record_bytes, record_of}
-use Rattle.paper.specs.Checks.{records_checked, stray}
+use Rattle.paper.specs.Checks.{stray}
 use Rattle.paper.specs.Reading.{block_records}
 use Rattle.paper.specs.Writing.{block_body, block_bytes}
 use Rattle.paper.specs.declared.header.Header.{Header}
-use Rattle.paper.proofs.Parts.{length_filter_map, parts_whole, whole_of}
 use Rattle.paper.proofs.RecordsBack.{records_back}
 use Rattle.paper.proofs.Sound.{SoundBlock}
 
@@ -67,18 +66,8 @@ whole_body block n few =
     ∙ ap (λ l. take 8 block ++ l) (sym (take-add (26 * n) (504 - (8 + 26 * n)) (drop 8 block)) ∙ ap (λ m. take m (drop 8 block)) long)
     ∙ sym (take-add 8 496 block)
 
--- a checked block has as many records as it counts
-pub length_block_records : (kind place : ℕ) (block : List ℕ) → records_checked kind place 0 (pieces 26 (get_or block 6 0) (drop 8 block)) ≡ Ok tt → length (block_records block) ≡ get_or block 6 0
-length_block_records kind place block sound =
-    let parts = pieces 26 (get_or block 6 0) (drop 8 block) in
-    ap length (parts_whole kind place 0 parts sound) ∙ length-map parts whole_of ∙ length_pieces 26 (get_or block 6 0) (drop 8 block)
-
--- no block has more
-pub few_block_records : (block : List ℕ) → length (block_records block) ≤ get_or block 6 0
-few_block_records block =
-    let long = length_pieces 26 (get_or block 6 0) (drop 8 block) in
-    let few = length_filter_map record_of (pieces 26 (get_or block 6 0) (drop 8 block)) in
-    omega arith
+pub length_block_records : (block : List ℕ) → length (block_records block) ≡ get_or block 6 0
+length_block_records block = length-map (pieces 26 (get_or block 6 0) (drop 8 block)) record_of ∙ length_pieces 26 (get_or block 6 0) (drop 8 block)
 
 pub block_back : (first : Header) (place : ℕ) (last : Bool) (block : List ℕ) → length block ≡ 512 → Bytes block → SoundBlock first place last block → block_bytes first place (block_records block) ≡ block
 unfolding block_bytes
@@ -88,7 +77,7 @@ block_back first place last block long each sound =
     let parts = pieces 26 n (drop 8 block) in
     let room : 26 * n ≤ length (drop 8 block) = omega (arith, length-drop 8 block) in
     let recs = block_records block in
-    let count : length recs ≡ n = length_block_records _ place block sound.records in
+    let count : length recs ≡ n = length_block_records block in
     let head : header_bytes (header_of block) ≡ header_bytes first = ap header_bytes (header_same (header_of block) first sound.front.same) in
     let written : flat_map record_bytes recs ≡ take (26 * n) (drop 8 block) =
     records_back _ place 0 parts (pieces_even 26 n (drop 8 block) room) (pieces_bytes 26 n (drop 8 block) (drop_bytes block 8 each)) sound.records

@@ -29,15 +29,14 @@ blocks_back first i (b ∷ bs) h long each sound =
 blocks_full : (first : Header) (i : ℕ) (bs : List (List ℕ)) (h : Header) → blocks_checked first i bs ≡ Ok h → Full 19 (map block_records bs)
 blocks_full first i [] h sound = tt
 blocks_full first i (b ∷ []) h sound =
-    let s = (blocks_tell first i b [] h sound).0 in
-    let f = s.front in
-    let n = length_block_records _ i b s.records in
+    let f = (blocks_tell first i b [] h sound).0.front in
+    let n = length_block_records b in
     let some = f.some in
     let few = f.few in
     (omega arith, omega arith)
 blocks_full first i (b ∷ c ∷ bs) h sound =
     let p = blocks_tell first i b (c ∷ bs) h sound in
-    (length_block_records _ i b p.0.records ∙ eqb-true (get_or b 6 0) 19 p.0.front.count, blocks_full first (suc i) (c ∷ bs) h p.1)
+    (length_block_records b ∙ eqb-true (get_or b 6 0) 19 p.0.front.count, blocks_full first (suc i) (c ∷ bs) h p.1)
 
 regrouped : (rss : List (List Record)) → Full 19 rss → let rs = flat_map (λ (r : List Record). r) rss in pieces 19 (blocks_for (length rs)) rs ≡ rss
 regrouped [] full = refl

@@ -1,6 +1,5 @@
 -- What the check of a block and of a paper answers, each fault in its turn. Assumes nothing.
 use Rattle.std.specs.Prelude.{ℕ, suc, ◌+◌, ◌-◌, ◌*◌, ◌/◌, Bool, true, false, cond, ◌&&◌, List, [], ◌∷◌, length, drop, Some, None, Ok, Err, Option, Result, ◌==◌, nat_le, nat_lt, slice_index, slice_range}
-use Rattle.std.specs.Option.{option_map_or}
 use Rattle.blocks.specs.Blocks.{is_length, blocks_in, check_holds}
 use Rattle.blocks.specs.Faults.{then}
 use Rattle.blocks.specs.Pieces.{pieces}
@@ -8,7 +7,7 @@ use Rattle.blocks.specs.declared.fault.RecordFault.{RecordFault}
 use Rattle.blocks.specs.declared.fault.BlockFault.{BlockFault}
 use Rattle.blocks.specs.declared.fault.BlockFault.TheVariants.{Check, Header, Record}
 use Rattle.paper.specs.Headers.{header_of, header_fits, same_header}
-use Rattle.paper.specs.Records.{record_of, record_fits, first_nonzero}
+use Rattle.paper.specs.Records.{is_code, record_of, record_fits, first_nonzero}
 use Rattle.paper.specs.declared.header.Header as header
 use Rattle.paper.specs.declared.fault.PaperFault.{PaperFault}
 use Rattle.paper.specs.declared.fault.PaperFault.TheVariants.{Length, InBlock}
@@ -24,7 +23,7 @@ front_fits first place last block =
 
 -- whether 26 bytes are a record that a paper of this kind may have
 abbrev pub part_fits : ℕ → List ℕ → Bool
-part_fits kind part = option_map_or (record_fits kind) (record_of part) false
+part_fits kind part = is_code (slice_index part 0) && record_fits kind (record_of part)
 
 -- records counted from i, in the block in a place
 abbrev pub records_checked : ℕ → ℕ → ℕ → List (List ℕ) → Result (Unit {0}) RecordFault

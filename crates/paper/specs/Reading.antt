@@ -1,6 +1,6 @@
 -- The records of a paper, one after another. Assumes nothing.
-use Rattle.std.specs.Prelude.{ℕ, ◌+◌, List, [], ◌++◌, drop, slice_index, slice_index_or}
-use Rattle.std.specs.List.{filter_map, flat_map}
+use Rattle.std.specs.Prelude.{ℕ, ◌+◌, List, [], ◌++◌, map, drop, slice_index, slice_index_or}
+use Rattle.std.specs.List.{flat_map}
 use Rattle.blocks.specs.Blocks.{blocks_in}
 use Rattle.blocks.specs.Pieces.{pieces}
 use Rattle.paper.specs.Records.{record_of}
@@ -8,7 +8,7 @@ use Rattle.paper.specs.declared.«record».Record.{Record}
 
 -- the records of a block, as many as it counts
 abbrev pub block_records : List ℕ → List Record
-block_records block = filter_map record_of (pieces 26 (slice_index block 6) (drop 8 block))
+block_records block = map record_of (pieces 26 (slice_index block 6) (drop 8 block))
 
 -- the records of all blocks
 abbrev pub paper_records : List ℕ → List Record

@@ -1,7 +1,6 @@
 -- The records of a paper: 26 bytes each, a call with its key and its amounts. Assumes nothing.
-use Rattle.std.specs.Prelude.{◌≡◌, ℕ, ◌^◌, ◌<◌, Bool, true, false, cond, not, ◌&&◌, ◌||◌, List, ◌∷◌, ◌++◌, length, take, drop, is_some, Some, None, Option, Result, MatchResult, ◌==◌, slice_index}
+use Rattle.std.specs.Prelude.{◌≡◌, ℕ, ◌^◌, ◌<◌, Bool, true, false, cond, not, ◌&&◌, ◌||◌, List, ◌∷◌, ◌++◌, length, take, drop, is_some, Some, None, Option, Result, MatchResult, ◌==◌, nat_le, slice_index}
 use Rattle.std.specs.List.{position_from}
-use Rattle.std.specs.Option.{option_map}
 use Rattle.numbers.specs.LittleEndian.{number_at, bytes_of}
 use Rattle.tallies.specs.Replicas.{replicas_number}
 use Rattle.paper.specs.declared.«record».Call.{Call}
@@ -18,13 +17,21 @@ code_of LookUp = 4
 code_of Widen = 5
 code_of Narrow = 6
 
--- the call of a code from 1 to 6; no other code has one
-abbrev pub call_of : ℕ → Option Call
-call_of n = cond (n == 1) (Some Post) (cond (n == 2) (Some Reverse) (cond (n == 3) (Some Erase) (cond (n == 4) (Some LookUp) (cond (n == 5) (Some Widen) (cond (n == 6) (Some Narrow) None)))))
+-- whether a byte names a call
+abbrev pub is_code : ℕ → Bool
+is_code n = nat_le 1 n && nat_le n 6
+
+-- the call of a code from 1 to 6
+abbrev pub call_of : ℕ → Call
+call_of n = cond (n == 1) Post (cond (n == 2) Reverse (cond (n == 3) Erase (cond (n == 4) LookUp (cond (n == 5) Widen Narrow))))
+
+-- the call that a byte names, if it names one
+abbrev pub named_call : ℕ → Option Call
+named_call n = cond (is_code n) (Some (call_of n)) None
 
 -- the call of a code, or an error with a code that has none
 abbrev pub Decodes : ℕ → Result Call UnknownCall → Type 0
-Decodes code r = MatchResult r (λ call. call_of code ≡ Some call) (λ e. (e.0 ≡ code) × (call_of code ≡ None))
+Decodes code r = MatchResult r (λ call. named_call code ≡ Some call) (λ e. (e.0 ≡ code) × (named_call code ≡ None))
 
 -- whether a call has packets and octets
 abbrev pub takes_amount : Call → Bool
@@ -67,13 +74,13 @@ octets_fit kind r = not (kind == replicas_number) || r.octets == 0
 unfoldable pub record_fits : ℕ → Record → Bool
 record_fits kind r = amount_fits r && (key_fits r && octets_fit kind r)
 
--- the record of this call in 26 bytes
-abbrev pub record_with : List ℕ → Call → Record
-record_with bytes call = record { call = call; key = take 13 (drop 1 bytes); packets = number_at 4 bytes 14; octets = number_at 8 bytes 18 }
+-- the record in 26 bytes
+abbrev pub record_of : List ℕ → Record
+record_of bytes = record { call = call_of (slice_index bytes 0); key = take 13 (drop 1 bytes); packets = number_at 4 bytes 14; octets = number_at 8 bytes 18 }
 
--- the record in 26 bytes, if the first names a call
-abbrev pub record_of : List ℕ → Option Record
-record_of bytes = option_map (record_with bytes) (call_of (slice_index bytes 0))
+-- the same, if the first byte names a call
+abbrev pub named_record : List ℕ → Option Record
+named_record bytes = cond (is_code (slice_index bytes 0)) (Some (record_of bytes)) None
 
 -- the bytes of a record
 abbrev pub record_bytes : Record → List ℕ

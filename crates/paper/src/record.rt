@@ -1,5 +1,5 @@
 ghost use Rattle.std.specs.Prelude.{◌≡◌};
-ghost use Rattle.paper.specs.Records.{code_of, Decodes, takes_amount, takes_key, amount_fits, key_fits, octets_fit, record_of, record_fits, Held};
+ghost use Rattle.paper.specs.Records.{code_of, Decodes, takes_amount, takes_key, amount_fits, key_fits, octets_fit, named_record, record_fits, Held};
 
 use crate::layout::RECORD;
 use crate::zeros::first_nonzero;
@@ -80,7 +80,7 @@ pub struct Record {
 impl Record {
     // The record in 26 bytes, if the first names a call.
     pub(crate) fn read(part: &[u8; RECORD]) -> Option<Record>
-        ensures { result ≡ record_of part.now }
+        ensures { result ≡ named_record part.now }
     {
         let call = Call::try_from(part[0]).ok()?;
         let mut key = [0; 13];

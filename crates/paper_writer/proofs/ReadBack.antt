@@ -1,8 +1,7 @@
 -- What is written of fit records is found fit, and read as the same. Assumes nothing.
-use Rattle.std.proofs.Common.{◌≡◌, ℕ, zero, suc, ◌+◌, ◌-◌, ◌*◌, ◌/◌, ◌%◌, ◌≤◌, Bool, true, false, cond, leb, List, [], ◌∷◌, ◌++◌, map, length, get_or, take, drop, replicate, Some, None, Ok, Err, sym, refl, ap, ◌∙◌, append_assoc, arith, length-append}
+use Rattle.std.proofs.Common.{◌≡◌, ℕ, zero, suc, ◌+◌, ◌-◌, ◌*◌, ◌/◌, ◌%◌, ◌≤◌, Bool, true, cond, leb, List, [], ◌∷◌, ◌++◌, map, length, get_or, take, drop, replicate, None, Ok, Err, sym, refl, ap, ◌∙◌, append_assoc, arith, length-append}
 use lib.ListN.{length-map}
-use Rattle.std.specs.List.{cons_option, filter_map, flat_map, AllByRecursion}
-use Rattle.std.specs.Option.{option_map, option_map_or}
+use Rattle.std.specs.List.{flat_map, AllByRecursion}
 use Rattle.std.proofs.ByRecursion.{All-map, All-weaker}
 use Rattle.std.proofs.lemmas.List.{drop_at, drop-drop, length-replicate, take_at}
 use Rattle.std.proofs.lemmas.Bool.{and_from, and_parts, eq-eqb, leb-true}
@@ -14,7 +13,7 @@ use Rattle.blocks.proofs.Bytes.{number_back}
 use Rattle.blocks.proofs.Checks.{check_read_back, length_with_check}
 use Rattle.blocks.proofs.Pieces.{even_joined, joined_map, length_even}
 use Rattle.paper.specs.Headers.{header_bytes, header_fits, header_of, same_header}
-use Rattle.paper.specs.Records.{Held, call_of, code_of, first_nonzero, record_bytes, record_fits, record_of, record_with}
+use Rattle.paper.specs.Records.{Held, call_of, code_of, first_nonzero, is_code, record_bytes, record_fits, record_of}
 use Rattle.paper.specs.Checks.{block_checked, count_fits, front_fits, part_fits, records_checked, stray, zeros_checked}
 use Rattle.paper.specs.Reading.{block_records}
 use Rattle.paper.specs.Writing.{block_body, block_bytes}
@@ -23,15 +22,15 @@ use Rattle.paper.specs.declared.«record».Call.{Call}
 use Rattle.paper.specs.declared.«record».Call.TheVariants.{Post, Reverse, Erase, LookUp, Widen, Narrow}
 use Rattle.paper.specs.declared.«record».Record.{Record}
 
-call_back : (c : Call) → call_of (code_of c) ≡ Some c
-call_back Post = refl
-call_back Reverse = refl
-call_back Erase = refl
-call_back LookUp = refl
-call_back Widen = refl
-call_back Narrow = refl
+call_back : (c : Call) → (call_of (code_of c) ≡ c) × (is_code (code_of c) ≡ true)
+call_back Post = (refl, refl)
+call_back Reverse = (refl, refl)
+call_back Erase = (refl, refl)
+call_back LookUp = (refl, refl)
+call_back Widen = (refl, refl)
+call_back Narrow = (refl, refl)
 
-record_back : (r : Record) → Held r → record_of (record_bytes r) ≡ Some r
+record_back : (r : Record) → Held r → record_of (record_bytes r) ≡ r
 record_back r held =
     let tail = bytes_of 4 r.packets ++ bytes_of 8 r.octets in
     let key : take 13 (r.key ++ tail) ≡ r.key = take_at r.key tail 13 held.0 in
@@ -39,7 +38,7 @@ record_back r held =
     let last : drop 17 (r.key ++ tail) ≡ bytes_of 8 r.octets = sym (drop-drop 4 13 (r.key ++ tail)) ∙ ap (drop 4) rest in
     let packets : number (take 4 (drop 13 (r.key ++ tail))) ≡ r.packets = ap (λ l. number (take 4 l)) rest ∙ number_back 4 r.packets (omega arith) in
     let octets : number (take 8 (drop 17 (r.key ++ tail))) ≡ r.octets = ap (λ l. number (take 8 l)) last ∙ number_back 8 r.octets (omega arith) in
-    ap (option_map (record_with (record_bytes r))) (call_back r.call) ∙ λ i. Some (record { call = r.call; key = key i; packets = packets i; octets = octets i })
+    λ i. record { call = (call_back r.call).0 i; key = key i; packets = packets i; octets = octets i }
 
 -- a record that can be written
 abbrev pub Fit : ℕ → Record → Type 0
@@ -51,13 +50,13 @@ length_record r held = ap suc (length-append r.key _) ∙ omega (arith, held.0)
 records_fit : (kind place i : ℕ) (records : List Record) → AllByRecursion (Fit kind) records → records_checked kind place i (map record_bytes records) ≡ Ok tt
 records_fit kind place i [] fit = refl
 records_fit kind place i (r ∷ rs) fit =
-    let one : part_fits kind (record_bytes r) ≡ true = ap (λ o. option_map_or (record_fits kind) o false) (record_back r fit.0.0) ∙ fit.0.1 in
+    let one : part_fits kind (record_bytes r) ≡ true = and_from _ _ (call_back r.call).1 (ap (record_fits kind) (record_back r fit.0.0) ∙ fit.0.1) in
     ap (λ t. cond t (records_checked kind place (suc i) (map record_bytes rs)) (Err (record { block = place; «record» = i + 1 }))) one
     ∙ records_fit kind place (suc i) rs fit.1
 
-records_same : (kind : ℕ) (records : List Record) → AllByRecursion (Fit kind) records → filter_map record_of (map record_bytes records) ≡ records
+records_same : (kind : ℕ) (records : List Record) → AllByRecursion (Fit kind) records → map record_of (map record_bytes records) ≡ records
 records_same kind [] fit = refl
-records_same kind (r ∷ rs) fit = ap (λ o. cons_option o (filter_map record_of (map record_bytes rs))) (record_back r fit.0.0) ∙ λ k. r ∷ records_same kind rs fit.1 k
+records_same kind (r ∷ rs) fit = λ k. record_back r fit.0.0 k ∷ records_same kind rs fit.1 k
 
 all_zeros : (n k : ℕ) → first_nonzero k (replicate n 0) ≡ None
 all_zeros zero k = refl
@@ -158,5 +157,5 @@ block_read_back h place last records fits count few fit =
     let recs = ap (λ b. records_checked (get_or b 5 0) place 0 (pieces 26 (get_or b 6 0) (drop 8 b))) is ∙ ap (records_checked h.kind place 0) parts ∙ records_fit h.kind place 0 records fit in
     let zeros = ap (λ b. zeros_checked place (8 + 26 * get_or b 6 0) b) is ∙ zeros_laid h.kind h place records (check_of h place records) fit few in (
       sound_from h place last (block_bytes h place records) (holds_written h place records fit few) front recs zeros,
-      ap block_records is ∙ ap (filter_map record_of) parts ∙ records_same h.kind records fit,
+      ap block_records is ∙ ap (map record_of) parts ∙ records_same h.kind records fit,
     )

@@ -58,5 +58,5 @@ pub(crate) fn write_block(block: &mut [u8], header: Header, place: u8, records: 
         write_record(&mut block[from..from + RECORD], record);
     }
     block[FRONT + RECORD * records.len()..BODY].fill(0);
-    write_check(block.as_mut_array().unwrap());
+    write_check(block);
 }

@@ -27,9 +27,9 @@ pub fn replay<T: Tally + Copy, R: Rule>(
     ensures account { Account T.Tally.kind (R.Rule.meaning rule.now) }
 {
     let count = requests.len().min(answers.len());
-    // written by index: after a `zip` with `iter_mut` a proof knows only how many answers there are
-    for (i, request) in requests[..count].iter().enumerate() {
-        answers[i] = table.call(rule, request, words);
+    // by number, as each answer is written by its place: so a loop that begins at another request is refused for what it answers
+    for i in 0..count {
+        answers[i] = table.call(rule, &requests[i], words);
     }
     count
 }

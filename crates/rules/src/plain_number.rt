@@ -1,3 +1,5 @@
+ghost use Rattle.std.specs.Prelude.{◌≡◌, take};
+ghost use Rattle.numbers.specs.LittleEndian.{number};
 ghost use Rattle.rules.specs.Rules.{plain_number, plain_rule};
 ghost use Rattle.std.proofs.Common.{rules};
 
@@ -19,9 +21,21 @@ impl Rule for PlainNumber {
     ghost ranged = { Prim.search rules };
 
     fn fingerprint(&self, key: &[u8], range: NonZeroU32) -> u32 {
-        let mut first = [0; 8];
-        let count = key.len().min(8);
-        first[..count].copy_from_slice(&key[..count]);
-        (read::<u64>(&first, 0) % u64::from(range.get())) as u32
+        (first_number(key) % u64::from(range.get())) as u32
     }
+}
+
+// The number in the first eight bytes, or in all if fewer. A short key is gone through by a loop: copied over zeros, its bytes would
+// need `memcpy` from outside.
+fn first_number(key: &[u8]) -> u64
+    ensures { result ≡ number (take 8 key.now) }
+{
+    if key.len() >= 8 {
+        return read(key, 0);
+    }
+    let mut number: u64 = 0;
+    for i in (0..key.len()).rev() {
+        number = number * 256 + u64::from(key[i]);
+    }
+    number
 }

@@ -2,6 +2,6 @@ mod Calling
 mod Papers
 mod Printers
 mod Printing
-mod Running
+pub mod Running
 mod Spelled
 mod Written

@@ -8,7 +8,7 @@ use Rattle.paper.specs.declared.header.Header.{Header}
 use Rattle.paper.specs.Checks.{blocks_checked, paper_checked}
 use Rattle.paper.specs.Headers.{header_of, header_fits, shape_fits}
 use Rattle.paper.specs.Reading.{block_records, paper_records}
-use Rattle.paper.proofs.BlocksBack.{header_same, few_block_records}
+use Rattle.paper.proofs.BlocksBack.{header_same, length_block_records}
 use Rattle.paper.proofs.Sound.{blocks_tell, paper_tells, sound_counted}
 
 records_few : (bs : List (List ℕ)) → ((j : ℕ) → j < length bs → get_or (get_or bs j []) 6 0 ≤ 19) → length (flat_map block_records bs) ≤ 19 * length bs
@@ -17,7 +17,7 @@ records_few (b ∷ bs) each =
     let here : get_or b 6 0 ≤ 19 = each 0 (omega arith) in
     let behind = records_few bs (λ j inside. each (suc j) (omega arith)) in
     let long = length-append (block_records b) (flat_map block_records bs) in
-    let one = few_block_records b in
+    let one = length_block_records b in
     omega arith
 
 pub paper_few : (paper : List ℕ) → is_ok (paper_checked paper) ≡ true → length (paper_records paper) ≤ 1900

@@ -1,5 +1,5 @@
 -- Worked cases of papers: what the definitions compute, beside what it should be. Assumes nothing.
-use Rattle.std.specs.Prelude.{◌≡◌, ℕ, true, false, List, [], ◌∷◌, ◌++◌, map, take, replicate, Some, None, Ok, slice_set}
+use Rattle.std.specs.Prelude.{◌≡◌, ℕ, true, false, List, [], ◌∷◌, ◌++◌, length, map, take, replicate, Some, None, Ok, slice_set}
 use Rattle.tallies.specs.Traffic.{traffic, traffic_kind}
 use Rattle.rules.specs.Rules.{fnv_rule}
 use Rattle.book.specs.Books.{blank, enter}
@@ -11,7 +11,7 @@ use Rattle.paper.specs.declared.header.Header.{Header}
 use Rattle.paper.specs.Checks.{paper_checked}
 use Rattle.paper.specs.Headers.{header_fits}
 use Rattle.paper.specs.Reading.{paper_records}
-use Rattle.paper.specs.Records.{code_of, call_of}
+use Rattle.paper.specs.Records.{code_of, call_of, named_call}
 use Rattle.paper.specs.Writing.{paper_bytes}
 use Rattle.run.specs.Figures.{traffic_shown, traffic_made}
 use Rattle.run.specs.Lines.{line}
@@ -101,8 +101,12 @@ joining_line =
 pub record WorkedPapersHold : Type 0 where
   -- the codes of the calls
   pub codes : map code_of all_calls ≡ 1 ∷ 2 ∷ 3 ∷ 4 ∷ 5 ∷ 6 ∷ []
-  pub calls : map call_of (1 ∷ 2 ∷ 3 ∷ 4 ∷ 5 ∷ 6 ∷ []) ≡ map Some all_calls
-  pub no_calls : map call_of (0 ∷ 7 ∷ []) ≡ None ∷ None ∷ []
+  pub calls : map call_of (1 ∷ 2 ∷ 3 ∷ 4 ∷ 5 ∷ 6 ∷ []) ≡ all_calls
+  pub named : map named_call (1 ∷ 2 ∷ 3 ∷ 4 ∷ 5 ∷ 6 ∷ []) ≡ map Some all_calls
+  pub no_calls : map named_call (0 ∷ 7 ∷ []) ≡ None ∷ None ∷ []
+  -- what is read where no call is named, which no paper that is found sound has
+  pub other_codes : map call_of (0 ∷ 7 ∷ []) ≡ Narrow ∷ Narrow ∷ []
+  pub unsound_read : length (paper_records (sample_with 8 7)) ≡ 9
   -- a paper's length, and the limits of its header
   pub lengths : map count_in (0 ∷ 511 ∷ 512 ∷ 513 ∷ 51200 ∷ 51201 ∷ 51712 ∷ []) ≡ None ∷ None ∷ Some 1 ∷ None ∷ Some 100 ∷ None ∷ None ∷ []
   pub fit : map header_fits fit_headers ≡ replicate 2 true

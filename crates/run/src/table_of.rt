@@ -1,7 +1,10 @@
 // The table that a paper's header asks for: its shape, its rule, and its kind with the seats.
 ghost use Rattle.std.specs.Prelude.{◌≡◌, length};
+ghost use Rattle.tallies.specs.Replicas.{replicas_kind};
+ghost use Rattle.tallies.specs.Traffic.{traffic_kind};
 ghost use Rattle.book.specs.Books.{blank};
 ghost use Rattle.paper.specs.Reading.{paper_records};
+ghost use Rattle.run.specs.Figures.{replicas_shown, replicas_made, traffic_shown, traffic_made};
 ghost use Rattle.run.specs.Printed.{lines, all_lines, rule_of, size_of};
 ghost use Rattle.run.specs.Runs.{Wrote};
 
@@ -40,6 +43,21 @@ fn write_on<T: Figured + Copy>(
     }
 }
 
+// The same on seats of its own, of replicas. A function of each kind: in one for both, the seats of both are filled for every paper;
+// and a generic one would need seats whose size in memory is bounded.
+fn write_replicas(paper: &SoundPaper<'_>, out: &mut [u8; MOST_PRINTED]) -> usize
+    ensures { Wrote out.old (lines replicas_kind (rule_of paper.now.header) replicas_shown replicas_made (blank (size_of paper.now.header)) 1 (paper_records paper.now.bytes.now)) result out.new }
+{
+    write_on(&mut [Seat::<Replicas>::empty(); SEATS], paper, out)
+}
+
+// And of traffic.
+fn write_traffic(paper: &SoundPaper<'_>, out: &mut [u8; MOST_PRINTED]) -> usize
+    ensures { Wrote out.old (lines traffic_kind (rule_of paper.now.header) traffic_shown traffic_made (blank (size_of paper.now.header)) 1 (paper_records paper.now.bytes.now)) result out.new }
+{
+    write_on(&mut [Seat::<Traffic>::empty(); SEATS], paper, out)
+}
+
 // The lines of a sound paper in its header's kind, on seats of its own.
 #[tactic(auto, unfolding(crate::specs::Printed::all_lines))]
 pub(crate) fn write_by_kind(paper: &SoundPaper<'_>, out: &mut [u8; MOST_PRINTED]) -> usize
@@ -47,8 +65,8 @@ pub(crate) fn write_by_kind(paper: &SoundPaper<'_>, out: &mut [u8; MOST_PRINTED]
 {
     // The kind is a type parameter of all that follows, too.
     if paper.header.kind == <Replicas as Tally>::kind_number() {
-        write_on(&mut [Seat::<Replicas>::empty(); SEATS], paper, out)
+        write_replicas(paper, out)
     } else {
-        write_on(&mut [Seat::<Traffic>::empty(); SEATS], paper, out)
+        write_traffic(paper, out)
     }
 }

@@ -38,8 +38,9 @@ pub fn vacate_all<T: Tally + Copy>(seats: &mut [Seat<T>])
     ensures { seats.new ≡ replicate (length seats.old) (vacant T.Tally.kind.empty) }
 {
     // a loop: `fill` asks that a `clone` cannot fail, which no bound of `T` says here, and the borrow checker does not follow
-    // `fill_with` where the function's result names a `T` that no argument names
-    for seat in seats.iter_mut() {
-        *seat = Seat::empty();
+    // `fill_with` where the function's result names a `T` that no argument names. By number, so that a loop which begins at
+    // another seat is refused for the seat that it leaves
+    for i in 0..seats.len() {
+        seats[i] = Seat::empty();
     }
 }

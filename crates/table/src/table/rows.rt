@@ -42,6 +42,9 @@ impl<T: Tally + Copy> Table<'_, T> {
         let shape = self.shape;
         let narrower = clear_last_row(self.seats, shape, words)?;
         self.shape = narrower;
-        Ok(self.size())
+        Ok(Rows {
+            rows: narrower.rows,
+            held: self.held,
+        })
     }
 }

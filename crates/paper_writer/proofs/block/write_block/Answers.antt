@@ -1,4 +1,4 @@
-use Rattle.std.proofs.Common.{length, refl, ap, ◌∙◌, arith, rules, take}
+use Rattle.std.proofs.Common.{length, refl, ap, ◌∙◌, arith, rules}
 use Rattle.std.proofs.lemmas.List.{take_at}
 use Rattle.paper.specs.Writing.{block_bytes}
 use Rattle.blocks.specs.Blocks.{with_check}
@@ -12,9 +12,7 @@ loop-i-preserved c =
 pub returns : goal.returns
 unfolding block_bytes
 returns c =
-    let whole = rw c.unwrap-2.ensures at c.as_mut_array.ensures.cases in
     c.write_check.ensures
-    ∙ ap (λ b. with_check (take 504 b)) whole.same
     ∙ ap with_check
     (body_filled c.args.header c.args.place _ c.args.records.now c.loop-i.block _ c.fill.new.self c.loop-i.i _
     (take_at c.write_front.new.part _ 8 (ap length c.write_front.ensures) ∙ c.write_front.ensures)

@@ -14,7 +14,10 @@ unfolding printed all_lines lines call_line paper_checked block_checked front_fi
 returns c = record {
   codes = refl;
   calls = refl;
+  named = refl;
   no_calls = refl;
+  other_codes = refl;
+  unsound_read = refl;
   lengths = refl;
   fit = refl;
   unfit = refl;

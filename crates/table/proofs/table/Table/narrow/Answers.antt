@@ -6,7 +6,7 @@ use Rattle.table.proofs.table.Table.narrow.Goals as goal
 pub returns-clause-did : goal.returns-clause-did
 returns-clause-did g c = λ rule.
     let done = c.in_ok-narrower.ensures.narrowed in
-    narrow_done g.T.Tally.kind rule c.args.self.now _ (length c.args.words.now) refl refl c.size.result c.size.ensures done.0 done.1 done.2 c.clear_last_row.auto.seats
+    narrow_done g.T.Tally.kind rule c.args.self.now _ (length c.args.words.now) refl refl _ refl done.0 done.1 done.2 c.clear_last_row.auto.seats
 
 pub returns-in_err-narrower-clause-did : goal.returns-in_err-narrower-clause-did
 returns-in_err-narrower-clause-did g c =

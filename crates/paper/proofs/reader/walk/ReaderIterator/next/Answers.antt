@@ -4,11 +4,11 @@ use Rattle.std.specs.Iterator.{MakesProgress, YieldsFirst, item_count}
 use Rattle.blocks.specs.Blocks.{blocks_in}
 use Rattle.blocks.specs.Pieces.{pieces}
 use Rattle.blocks.proofs.Pieces.{slice_index_or_pieces, length_pieces}
-use Rattle.paper.specs.Records.{record_of}
+use Rattle.paper.specs.Records.{named_record, record_of}
 use Rattle.paper.specs.Checks.{paper_checked}
 use Rattle.paper.specs.Walking.{records_left}
 use Rattle.paper.specs.declared.«record».Record.{Record}
-use Rattle.paper.proofs.Parts.{part_at, whole_of}
+use Rattle.paper.proofs.Parts.{part_at}
 use Rattle.paper.proofs.Sound.{Told, sound_counted}
 use Rattle.paper.proofs.ToCome.{come_none, come_inside, come_last, part_is, room_parts}
 use Rattle.paper.proofs.reader.walk.ReaderIterator.next.Goals as goal
@@ -54,11 +54,11 @@ standing c =
 
 -- what is read there
 read_here : (paper : List ℕ) (j i : ℕ) (block part : List ℕ) (parts : List (List ℕ)) → Here paper j i block → part ≡ get_or parts i [] → get_or parts i [] ≡ get_or (pieces 26 (get_or block 6 0) (drop 8 block)) i [] →
-    record_of part ≡ Some (whole_of (get_or (pieces 26 (get_or block 6 0) (drop 8 block)) i []))
+    named_record part ≡ Some (record_of (get_or (pieces 26 (get_or block 6 0) (drop 8 block)) i []))
 read_here paper j i block part parts h is same =
     let n = length_pieces 26 (get_or block 6 0) (drop 8 block) in
     let w = h.within in
-    ap record_of (is ∙ same) ∙ part_at _ h.told.place 0 (pieces 26 (get_or block 6 0) (drop 8 block)) h.told.records i (omega arith)
+    ap named_record (is ∙ same) ∙ part_at _ h.told.place 0 (pieces 26 (get_or block 6 0) (drop 8 block)) h.told.records i (omega arith)
 
 -- a call that gave the first of what was left, and left the others
 steps : {A : Type 0} (before after : List A) (found : Option A) (x : A) → found ≡ Some x → before ≡ x ∷ after → MatchOption found ((before ≡ []) × (after ≡ [])) (λ y. before ≡ y ∷ after)
