@@ -9,7 +9,6 @@ use Rattle.blocks.specs.Pieces.{pieces}
 use Rattle.blocks.proofs.Pieces.{slice_index_or_pieces, length_pieces}
 use Rattle.paper.specs.Reading.{block_records, to_come}
 use Rattle.paper.specs.Records.{record_of}
-use Rattle.paper.proofs.Sound.{Told}
 
 pub come_none : (paper : List ℕ) (j i : ℕ) → length paper / 512 ≤ j → to_come paper j i ≡ []
 unfolding to_come
@@ -47,11 +46,11 @@ part_is block i n long inside few =
     ∙ take-take 26 rest (drop (26 * i) room) (omega arith)
     ∙ sym (slice_index_or_pieces 26 i n room inside)
 
--- the record in place i of a block that was checked, and those behind it
-come_one : (paper : List ℕ) (j i : ℕ) (block : List ℕ) → j < length paper / 512 → get_or (blocks_in paper) j [] ≡ block → Told block → i < get_or block 6 0 →
+-- the record in place i of a block, and those behind it
+come_one : (paper : List ℕ) (j i : ℕ) (block : List ℕ) → j < length paper / 512 → get_or (blocks_in paper) j [] ≡ block → i < get_or block 6 0 →
     to_come paper j i ≡ record_of (get_or (pieces 26 (get_or block 6 0) (drop 8 block)) i []) ∷ (drop (i + 1) (block_records block) ++ flat_map block_records (drop (j + 1) (blocks_in paper)))
 unfolding to_come
-come_one paper j i block low is told inside =
+come_one paper j i block low is inside =
     let parts = pieces 26 (get_or block 6 0) (drop 8 block) in
     let long = length_pieces 26 (get_or block 6 0) (drop 8 block) in
     let rest = flat_map block_records (drop (j + 1) (blocks_in paper)) in
@@ -59,19 +58,19 @@ come_one paper j i block low is told inside =
     ∙ ap (λ l. l ++ rest) (drop_more (map record_of parts) i (record_of []) (omega (arith, length-map parts record_of)))
     ∙ (λ k. get_or-map record_of parts i [] (record_of []) (omega arith) k ∷ (drop (i + 1) (map record_of parts) ++ rest))
 
-pub come_inside : (paper : List ℕ) (j i : ℕ) (block : List ℕ) → j < length paper / 512 → get_or (blocks_in paper) j [] ≡ block → Told block → i < get_or block 6 0 →
+pub come_inside : (paper : List ℕ) (j i : ℕ) (block : List ℕ) → j < length paper / 512 → get_or (blocks_in paper) j [] ≡ block → i < get_or block 6 0 →
     to_come paper j i ≡ record_of (get_or (pieces 26 (get_or block 6 0) (drop 8 block)) i []) ∷ to_come paper j (i + 1)
 unfolding to_come
-come_inside paper j i block low is told inside =
-    come_one paper j i block low is told inside
+come_inside paper j i block low is inside =
+    come_one paper j i block low is inside
     ∙ ap (λ b. record_of (get_or (pieces 26 (get_or block 6 0) (drop 8 block)) i []) ∷ (drop (i + 1) (block_records b) ++ flat_map block_records (drop (j + 1) (blocks_in paper)))) (sym is)
 
-pub come_last : (paper : List ℕ) (j i : ℕ) (block : List ℕ) → j < length paper / 512 → get_or (blocks_in paper) j [] ≡ block → Told block → i < get_or block 6 0 → get_or block 6 0 ≤ i + 1 →
+pub come_last : (paper : List ℕ) (j i : ℕ) (block : List ℕ) → j < length paper / 512 → get_or (blocks_in paper) j [] ≡ block → i < get_or block 6 0 → get_or block 6 0 ≤ i + 1 →
     to_come paper j i ≡ record_of (get_or (pieces 26 (get_or block 6 0) (drop 8 block)) i []) ∷ to_come paper (j + 1) 0
-come_last paper j i block low is told inside last =
+come_last paper j i block low is inside last =
     let parts = pieces 26 (get_or block 6 0) (drop 8 block) in
     let long = length_pieces 26 (get_or block 6 0) (drop 8 block) in
     let none : drop (i + 1) (block_records block) ≡ [] = drop_all (i + 1) (map record_of parts) (omega (arith, length-map parts record_of)) in
-    come_one paper j i block low is told inside
+    come_one paper j i block low is inside
     ∙ ap (λ l. record_of (get_or parts i []) ∷ (l ++ flat_map block_records (drop (j + 1) (blocks_in paper)))) none
     ∙ ap (λ l. record_of (get_or parts i []) ∷ l) (come_block paper (j + 1))

@@ -122,7 +122,7 @@ returns-then-self-from-clause-steps c =
     let h = standing (goal.at.returns-then-self-from-clause-steps c).In_ok-block in
     let place = ap (λ ps. get_or ps s.«record» []) c.as_chunks-2.ensures.front ∙ part_is block s.«record» (get_or block 6 0) h.long h.within h.told.few in
     steps _ _ c.read-found.result _ (c.read-found.ensures ∙ read_here s.paper.now s.block s.«record» block _ c.as_chunks-2.result.0.now h refl place)
-    (come_inside s.paper.now s.block s.«record» block h.low h.is h.told h.within)
+    (come_inside s.paper.now s.block s.«record» block h.low h.is h.within)
 
 pub returns-then-self-from-clause-goes : goal.returns-then-self-from-clause-goes
 returns-then-self-from-clause-goes c =
@@ -131,7 +131,7 @@ returns-then-self-from-clause-goes c =
     let h = standing (goal.at.returns-then-self-from-clause-goes c).In_ok-block in
     let place = ap (λ ps. get_or ps s.«record» []) c.as_chunks-2.ensures.front ∙ part_is block s.«record» (get_or block 6 0) h.long h.within h.told.few in
     goes _ records_left s _ c.read-found.result _ tt (c.read-found.ensures ∙ read_here s.paper.now s.block s.«record» block _ c.as_chunks-2.result.0.now h refl place)
-    (come_inside s.paper.now s.block s.«record» block h.low h.is h.told h.within)
+    (come_inside s.paper.now s.block s.«record» block h.low h.is h.within)
 
 pub returns-else-self-from-clause-steps : goal.returns-else-self-from-clause-steps
 returns-else-self-from-clause-steps c =
@@ -140,7 +140,7 @@ returns-else-self-from-clause-steps c =
     let h = standing (goal.at.returns-else-self-from-clause-steps c).In_ok-block in
     let place = ap (λ ps. get_or ps s.«record» []) c.as_chunks-2.ensures.front ∙ part_is block s.«record» (get_or block 6 0) h.long h.within h.told.few in
     steps _ _ c.read-found.result _ (c.read-found.ensures ∙ read_here s.paper.now s.block s.«record» block _ c.as_chunks-2.result.0.now h refl place)
-    (come_last s.paper.now s.block s.«record» block h.low h.is h.told h.within (omega arith))
+    (come_last s.paper.now s.block s.«record» block h.low h.is h.within (omega arith))
 
 pub returns-else-self-from-clause-goes : goal.returns-else-self-from-clause-goes
 returns-else-self-from-clause-goes c =
@@ -149,4 +149,4 @@ returns-else-self-from-clause-goes c =
     let h = standing (goal.at.returns-else-self-from-clause-goes c).In_ok-block in
     let place = ap (λ ps. get_or ps s.«record» []) c.as_chunks-2.ensures.front ∙ part_is block s.«record» (get_or block 6 0) h.long h.within h.told.few in
     goes _ records_left s _ c.read-found.result _ tt (c.read-found.ensures ∙ read_here s.paper.now s.block s.«record» block _ c.as_chunks-2.result.0.now h refl place)
-    (come_last s.paper.now s.block s.«record» block h.low h.is h.told h.within (omega arith))
+    (come_last s.paper.now s.block s.«record» block h.low h.is h.within (omega arith))
